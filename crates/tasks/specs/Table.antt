@@ -1,0 +1,26 @@
+-- The task table (document 01, "The task table" and "Refusals by cause").
+use Prim.Native.Nat.{ℕ}
+use mathlib.Core.Bool.{Bool, true, false, _||_}
+use lib.ListN.{getD}
+use lib.Dec.{ltb}
+use Rattle.tasks.specs.Lists.{pick, any}
+use Rattle.tasks.specs.declared.table.Table.{Table}
+
+-- not 1 to 8
+abbrev pub outside : ℕ → Bool
+outside x = ltb x 1 || ltb 8 x
+
+-- task i of n, counted from 0, breaks 1 ≤ C ≤ D ≤ P ≤ 200, or an entry after the nth is not 0
+unfoldable pub faultAt : Table → ℕ → Bool
+faultAt t i =
+    pick (ltb i (t .n))
+    (ltb (getD (t .work) i 0) 1 || ltb (getD (t .deadline) i 0) (getD (t .work) i 0) || ltb (getD (t .gap) i 0) (getD (t .deadline) i 0) || ltb 200 (getD (t .gap) i 0))
+    (ltb 0 (getD (t .work) i 0) || ltb 0 (getD (t .deadline) i 0) || ltb 0 (getD (t .gap) i 0))
+
+-- the refusal of a table: the first of 4 to 7 that applies, and 0 for a valid table
+unfoldable pub tableFault : Table → ℕ
+tableFault t =
+    pick (ltb 3 (t .policy)) 4
+    (pick (outside (t .m)) 5
+    (pick (outside (t .n)) 6
+    (pick (any 8 (faultAt t)) 7 0)))
