@@ -3,3 +3,6 @@ pub mod Bools
 pub mod Picks
 pub mod Turns
 pub mod Fill
+pub mod Groups
+pub mod Tables
+pub mod Fields

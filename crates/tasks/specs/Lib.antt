@@ -1,2 +1,4 @@
 pub mod Lists
 pub mod Table
+pub mod Number
+pub mod Sheet

@@ -10,11 +10,15 @@ use Rattle.tasks.specs.declared.table.Table.{Table}
 abbrev pub outside : ℕ → Bool
 outside x = ltb x 1 || ltb 8 x
 
--- task i of n, counted from 0, breaks 1 ≤ C ≤ D ≤ P ≤ 200, or an entry after the nth is not 0
+-- the numbers of a task break 1 ≤ C ≤ D ≤ P ≤ 200
+unfoldable pub breaks : ℕ → ℕ → ℕ → Bool
+breaks work deadline gap = ltb work 1 || ltb deadline work || ltb gap deadline || ltb 200 gap
+
+-- task i, counted from 0, breaks the rule, or an entry after the nth is not 0
 unfoldable pub faultAt : Table → ℕ → Bool
 faultAt t i =
     pick (ltb i (t .n))
-    (ltb (getD (t .work) i 0) 1 || ltb (getD (t .deadline) i 0) (getD (t .work) i 0) || ltb (getD (t .gap) i 0) (getD (t .deadline) i 0) || ltb 200 (getD (t .gap) i 0))
+    (breaks (getD (t .work) i 0) (getD (t .deadline) i 0) (getD (t .gap) i 0))
     (ltb 0 (getD (t .work) i 0) || ltb 0 (getD (t .deadline) i 0) || ltb 0 (getD (t .gap) i 0))
 
 -- the refusal of a table: the first of 4 to 7 that applies, and 0 for a valid table

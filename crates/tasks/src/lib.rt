@@ -1,4 +1,11 @@
-// The lower layer of the verdict engine: the task table and its faults.
+// The lower layer of the verdict engine: the task table and its faults, the sheet's numbers, and the sheet.
+mod number;
+mod sheet;
 mod table;
 
+pub use number::Number;
+pub use number::read_number;
+pub use sheet::Reading;
+pub use sheet::Sheet;
+pub use sheet::read_sheet;
 pub use table::Table;

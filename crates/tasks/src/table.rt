@@ -1,8 +1,9 @@
 // The task table by value, and its faults.
+use crate::number::wide;
 ghost use mathlib.Core.Path.{_≡_};
 ghost use Prim.Native.Nat.{_<_};
 ghost use Rattle.tasks.specs.Lists.{any};
-ghost use Rattle.tasks.specs.Table.{outside, faultAt, tableFault};
+ghost use Rattle.tasks.specs.Table.{outside, breaks, faultAt, tableFault};
 
 // A table in memory: policy, processors, tasks, and for each of eight tasks its work C, deadline D and least gap P.
 pub struct Table {
@@ -21,18 +22,25 @@ fn outside(x: u8) -> bool
     (x < 1) | (8 < x)
 }
 
+// Whether the numbers of a task break 1 ≤ C ≤ D ≤ P ≤ 200.
+pub(crate) fn breaks(work: usize, deadline: usize, gap: usize) -> bool
+    ensures { λ r. ⌜ r ≡ breaks work deadline gap ⌝ }
+{
+    (work < 1) | (deadline < work) | (gap < deadline) | (200 < gap)
+}
+
 impl Table {
     // Whether task i breaks 1 ≤ C ≤ D ≤ P ≤ 200, or an entry after the nth is not 0.
     fn fault_at(self, i: usize) -> bool
         requires { ⌜ i < 8 ⌝ }
         ensures { λ r. ⌜ r ≡ faultAt self i ⌝ }
     {
-        let work = self.work[i];
-        let deadline = self.deadline[i];
-        let gap = self.gap[i];
+        let work = wide(self.work[i]);
+        let deadline = wide(self.deadline[i]);
+        let gap = wide(self.gap[i]);
         let n = self.n as usize;
         if i < n {
-            return (work < 1) | (deadline < work) | (gap < deadline) | (200 < gap);
+            return breaks(work, deadline, gap);
         }
         (0 < work) | (0 < deadline) | (0 < gap)
     }

@@ -1,0 +1,46 @@
+use Rattle.tasks.specs.Sheet.{sheetOf}
+use mathlib.Core.Path.{_≡_, refl, sym, ap, _∙_}
+use native.Mathlib.Omega.{arith}
+use borrow.Author.Needs.{needs}
+use Rattle.tasks.proofs.sheet.read_sheet.Statement.{statement}
+use Rattle.tasks.proofs.sheet.read_sheet.Tie as tie
+use Rattle.tasks.proofs.sheet.read_sheet.Reads as reads
+use Rattle.tasks.proofs.sheet.read_sheet.Lts as lts
+use Rattle.tasks.proofs.sheet.read_field.Reads as read-field-reads
+use Rattle.tasks.proofs.sheet.read_policy.Reads as read-policy-reads
+use Rattle.tasks.proofs.sheet.refused.Reads as refused-reads
+
+read-field-requires : tie.Need-read-field-requires
+read-field-requires c κs = search needs
+
+enum-known-r : tie.Need-enum-known-r
+enum-known-r c = search needs
+
+refused-requires : tie.Need-refused-requires
+refused-requires c κs = search needs
+
+enum-known-next : tie.Need-enum-known-next
+enum-known-next c = search needs
+
+read-policy-requires : tie.Need-read-policy-requires
+read-policy-requires c κs = search needs
+
+returns : tie.Need-returns
+unfolding sheetOf
+returns c = let e = sym (c .before .before .before .before .read-field .ensures) ∙ c .before .before .r .given .1 in rw e (c .refused .ensures)
+
+returns-2 : tie.Need-returns-2
+unfolding sheetOf
+returns-2 c = let e = sym (c .before .before .before .before .read-field .ensures) ∙ c .before .before .next .given .1 in rw e (c .read-policy .ensures)
+
+pub read-sheet-spec : {M : Type 1} → statement M
+read-sheet-spec =
+    tie.close
+    (tie.spec
+    read-field-requires
+    enum-known-r
+    refused-requires
+    enum-known-next
+    read-policy-requires
+    returns
+    returns-2)

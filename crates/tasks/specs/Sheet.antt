@@ -1,0 +1,112 @@
+-- The sheet as bytes (document 01, "The sheet as bytes" and "Refusals by cause"). In order: fields for each task (3), policy,
+-- m, n, then C, D, P for each task, and the end. A sheet is judged in reading order: each number 1, 2, then its own rule; 7
+-- after a task's three numbers; 8 for bytes after the last task.
+use Prim.Native.Nat.{ℕ, zero, suc, _+_}
+use mathlib.Core.List.{List, [], _∷_, _++_}
+use mathlib.Core.Bool.{Bool, true, false, _||_}
+use lib.ListN.{length, getD, set, drop}
+use lib.Dec.{ltb}
+use Rattle.tasks.specs.Lists.{eight, pick}
+use Rattle.tasks.specs.Table.{breaks, tableFault}
+use Rattle.tasks.specs.Number.{numberBytes, numberAt}
+use Rattle.tasks.specs.declared.number.Number.{Number}
+use Rattle.tasks.specs.declared.number.Number.the-variants.{Value, Refused}
+use Rattle.tasks.specs.declared.table.Table.{Table}
+use Rattle.tasks.specs.declared.sheet.Reading.the-variants as Reading
+use Rattle.tasks.specs.declared.sheet.Sheet.{Sheet}
+use Rattle.tasks.specs.declared.sheet.Task.{Task}
+use Rattle.tasks.specs.declared.sheet.TaskRead.{TaskRead}
+use Rattle.tasks.specs.declared.sheet.TaskRead.the-variants as TaskRead
+
+-- a table of n tasks before any is read
+abbrev pub emptyTable : ℕ → ℕ → ℕ → Table
+emptyTable policy m n =
+    record {
+      policy = policy;
+      m = m;
+      n = n;
+      work = eight (λ i. 0);
+      deadline = eight (λ i. 0);
+      gap = eight (λ i. 0);
+    }
+
+abbrev pub refusedWith : ℕ → Sheet
+refusedWith r = record { answer = Reading.Refused r; table = emptyTable 0 0 0 }
+
+abbrev pub acceptedAs : Table → Sheet
+acceptedAs t = record { answer = Reading.Accepted; table = t }
+
+-- ---- the numbers before the tasks
+
+-- a number's own rule: from low to high, else refusal r
+abbrev pub ruled : ℕ → ℕ → ℕ → Number → Number
+ruled low high r (Value v next) = pick (ltb v low || ltb high v) (Refused r) (Value v next)
+ruled low high r (Refused q) = Refused q
+
+unfoldable pub fieldAt : List ℕ → ℕ → ℕ → ℕ → ℕ → Number
+fieldAt s at low high r = ruled low high r (numberAt s at)
+
+-- the rest of the sheet after a number, or its refusal
+abbrev pub andThen : Number → (ℕ → ℕ → Sheet) → Sheet
+andThen (Value v next) rest = rest v next
+andThen (Refused r) rest = refusedWith r
+
+-- ---- a task
+
+-- a task of three numbers, judged once they are read
+unfoldable pub taskOf : ℕ → ℕ → ℕ → ℕ → TaskRead
+taskOf work deadline gap next =
+    pick (breaks work deadline gap) (TaskRead.Refused 7)
+    (TaskRead.Read (record { work = work; deadline = deadline; gap = gap }) next)
+
+abbrev pub taskThen : Number → (ℕ → ℕ → TaskRead) → TaskRead
+taskThen (Value v next) rest = rest v next
+taskThen (Refused r) rest = TaskRead.Refused r
+
+-- the task at a place: C, D and P
+unfoldable pub taskAt : List ℕ → ℕ → TaskRead
+taskAt s at =
+    taskThen (numberAt s at)
+    (λ work a. taskThen (numberAt s a) (λ deadline b. taskThen (numberAt s b) (λ gap next. taskOf work deadline gap next)))
+
+-- the table with the numbers of task i set
+unfoldable pub withTask : Table → ℕ → Task → Table
+withTask t i task =
+    record {
+      policy = t .policy;
+      m = t .m;
+      n = t .n;
+      work = set (t .work) i (task .work);
+      deadline = set (t .deadline) i (task .deadline);
+      gap = set (t .gap) i (task .gap);
+    }
+
+-- the rest of the sheet after a task, or its refusal
+abbrev pub afterTask : TaskRead → (Task → ℕ → Sheet) → Sheet
+afterTask (TaskRead.Read task next) rest = rest task next
+afterTask (TaskRead.Refused r) rest = refusedWith r
+
+-- ---- the sheet
+
+-- k tasks more, from task i on, and then the end
+unfoldable pub tasksFrom : ℕ → ℕ → Table → List ℕ → ℕ → Sheet
+tasksFrom zero i t s at = pick (ltb at (length s)) (refusedWith 8) (acceptedAs t)
+tasksFrom (suc k) i t s at =
+    afterTask (taskAt s at) (λ task next. tasksFrom k (i + 1) (withTask t i task) s next)
+
+-- the sheet from each place on
+unfoldable pub fromTasks : List ℕ → ℕ → ℕ → ℕ → ℕ → Sheet
+fromTasks s policy m n at = tasksFrom n 0 (emptyTable policy m n) s at
+
+unfoldable pub fromCount : List ℕ → ℕ → ℕ → ℕ → Sheet
+fromCount s policy m at = andThen (fieldAt s at 1 8 6) (fromTasks s policy m)
+
+unfoldable pub fromProcessors : List ℕ → ℕ → ℕ → Sheet
+fromProcessors s policy at = andThen (fieldAt s at 1 8 5) (fromCount s policy)
+
+unfoldable pub fromPolicy : List ℕ → ℕ → Sheet
+fromPolicy s at = andThen (fieldAt s at 0 3 4) (fromProcessors s)
+
+-- what reading a sheet answers
+unfoldable pub sheetOf : List ℕ → Sheet
+sheetOf s = andThen (fieldAt s 0 3 3 3) (λ fields. fromPolicy s)
