@@ -4,9 +4,13 @@ use mathlib.Core.Path.{_≡_, refl, sym, ap, _∙_}
 use mathlib.Core.Bool.{Bool, true, false, _||_}
 use native.Mathlib.Omega.{arith}
 use lib.Dec.{ltb}
+use lib.ListN.{getD}
 use borrow.Author.Tests.{lt-ltb, le-ltb, ltb-true, ltb-false}
-use Rattle.tasks.specs.Table.{breaks}
-use Rattle.tasks.proofs.Bools.{nor-left, nor-right}
+use Rattle.tasks.specs.Lists.{pick, any}
+use Rattle.tasks.specs.Table.{outside, breaks, faultAt, tableFault}
+use Rattle.tasks.specs.declared.table.Table.{Table}
+use Rattle.tasks.proofs.Bools.{by-bool, clash, nor-left, nor-right}
+use Rattle.tasks.proofs.Counts.{any-false, none-any}
 
 -- 1 ≤ C ≤ D ≤ P ≤ 200
 pub record FitTask (work deadline gap : ℕ) : Type 0 where
@@ -31,3 +35,70 @@ pub task-fits : {work deadline gap : ℕ} → FitTask work deadline gap → brea
 unfolding breaks
 task-fits {work} {deadline} {gap} f =
     rw (le-ltb work 1 (f .some), le-ltb deadline work (f .order), le-ltb gap deadline (f .close), le-ltb 200 gap (f .short))
+
+-- what a valid table keeps to
+pub record Valid (t : Table) : Type 0 where
+  pub policy : t .policy ≤ 3
+  pub processors : (1 ≤ t .m) × (t .m ≤ 8)
+  pub tasks : (1 ≤ t .n) × (t .n ≤ 8)
+  pub each : (i : ℕ) → i < t .n → FitTask (getD (t .work) i 0) (getD (t .deadline) i 0) (getD (t .gap) i 0)
+  pub rest : (i : ℕ) → t .n ≤ i → i < 8 → (getD (t .work) i 0 ≡ 0) × (getD (t .deadline) i 0 ≡ 0) × (getD (t .gap) i 0 ≡ 0)
+
+-- the case that a chain of tests leaves
+left-over : (b : Bool) (k : ℕ) {x : ℕ} → 0 < k → pick b k x ≡ 0 → (b ≡ false) × (x ≡ 0)
+left-over true k h e = absurd (omega arith)
+left-over false k h e = (refl, e)
+
+inside : (x : ℕ) → outside x ≡ false → (1 ≤ x) × (x ≤ 8)
+inside x e = (ltb-false x 1 (nor-left (ltb x 1) (ltb 8 x) e), ltb-false 8 x (nor-right (ltb x 1) (ltb 8 x) e))
+
+inside-no : (x : ℕ) → 1 ≤ x → x ≤ 8 → outside x ≡ false
+inside-no x h l = rw (le-ltb x 1 h, le-ltb 8 x l)
+
+module _ (t : Table) where
+  each-fits : (i : ℕ) → faultAt t i ≡ false → i < t .n → FitTask (getD (t .work) i 0) (getD (t .deadline) i 0) (getD (t .gap) i 0)
+  unfolding faultAt
+  each-fits i e h = fit-task (rw (lt-ltb i (t .n) h) at e)
+
+  rest-zero : (i : ℕ) → faultAt t i ≡ false → t .n ≤ i → (getD (t .work) i 0 ≡ 0) × (getD (t .deadline) i 0 ≡ 0) × (getD (t .gap) i 0 ≡ 0)
+  unfolding faultAt
+  rest-zero i e h =
+      let C = getD (t .work) i 0 in
+      let D = getD (t .deadline) i 0 in
+      let P = getD (t .gap) i 0 in
+      let f : ltb 0 C || ltb 0 D || ltb 0 P ≡ false = rw (le-ltb i (t .n) h) at e in
+      let g = nor-left (ltb 0 C || ltb 0 D) (ltb 0 P) f in
+      (omega (arith, ltb-false 0 C (nor-left (ltb 0 C) (ltb 0 D) g)), omega (arith, ltb-false 0 D (nor-right (ltb 0 C) (ltb 0 D) g)), omega (arith, ltb-false 0 P (nor-right (ltb 0 C || ltb 0 D) (ltb 0 P) f)))
+
+  -- a table that is not refused is valid
+  pub valid : tableFault t ≡ 0 → Valid t
+  unfolding tableFault
+  valid e =
+      let a = left-over (ltb 3 (t .policy)) 4 (omega arith) e in
+      let b = left-over (outside (t .m)) 5 (omega arith) (a .1) in
+      let c = left-over (outside (t .n)) 6 (omega arith) (b .1) in
+      let d = left-over (any 8 (faultAt t)) 7 (omega arith) (c .1) in
+      let n = inside (t .n) (c .0) in
+      record {
+        policy = ltb-false 3 (t .policy) (a .0);
+        processors = inside (t .m) (b .0);
+        tasks = n;
+        each = λ i h. each-fits i (any-false (faultAt t) 8 i (d .0) (omega (arith, n .1))) h;
+        rest = λ i h l. rest-zero i (any-false (faultAt t) 8 i (d .0) l) h;
+      }
+
+  fault-none : Valid t → (i : ℕ) → i < 8 → faultAt t i ≡ false
+  unfolding faultAt
+  fault-none v i l =
+      by-bool (ltb i (t .n))
+      (λ h. rw h (task-fits (v .each i (ltb-true i (t .n) h))))
+      (λ h.
+      let z = v .rest i (ltb-false i (t .n) h) l in
+      rw (h, z .0, z .1, z .2))
+
+  -- and a valid one is not refused
+  pub not-refused : Valid t → tableFault t ≡ 0
+  unfolding tableFault
+  not-refused v =
+      rw
+      (le-ltb 3 (t .policy) (v .policy), inside-no (t .m) (v .processors .0) (v .processors .1), inside-no (t .n) (v .tasks .0) (v .tasks .1), none-any (faultAt t) 8 (fault-none v))

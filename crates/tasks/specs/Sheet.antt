@@ -14,6 +14,8 @@ use Rattle.tasks.specs.declared.number.Number.the-variants.{Value, Refus
 use Rattle.tasks.specs.declared.table.Table.{Table}
 use Rattle.tasks.specs.declared.sheet.Reading.the-variants as Reading
 use Rattle.tasks.specs.declared.sheet.Sheet.{Sheet}
+use Rattle.tasks.specs.declared.writer.Writing.{Writing}
+use Rattle.tasks.specs.declared.writer.Writing.the-variants as Writing
 use Rattle.tasks.specs.declared.sheet.Task.{Task}
 use Rattle.tasks.specs.declared.sheet.TaskRead.{TaskRead}
 use Rattle.tasks.specs.declared.sheet.TaskRead.the-variants as TaskRead
@@ -110,3 +112,33 @@ fromPolicy s at = andThen (fieldAt s at 0 3 4) (fromProcessors s)
 -- what reading a sheet answers
 unfoldable pub sheetOf : List ℕ → Sheet
 sheetOf s = andThen (fieldAt s 0 3 3 3) (λ fields. fromPolicy s)
+
+-- ---- the writer
+
+-- the bytes of task i
+unfoldable pub taskBytes : Table → ℕ → List ℕ
+taskBytes t i = numberBytes (getD (t .work) i 0) ++ (numberBytes (getD (t .deadline) i 0) ++ numberBytes (getD (t .gap) i 0))
+
+-- the bytes of k tasks from task i on
+unfoldable pub tasksBytes : Table → ℕ → ℕ → List ℕ
+tasksBytes t zero i = []
+tasksBytes t (suc k) i = taskBytes t i ++ tasksBytes t k (i + 1)
+
+-- the sheet of a table
+unfoldable pub sheetBytes : Table → List ℕ
+sheetBytes t =
+    numberBytes 3 ++ (numberBytes (t .policy) ++ (numberBytes (t .m) ++ (numberBytes (t .n) ++ tasksBytes t (t .n) 0)))
+
+-- why a table is not written to an output, 0 where it is: 4 to 7, then 12 where the output is shorter than the sheet
+unfoldable pub writeRefusal : Table → List ℕ → ℕ
+writeRefusal t out =
+    pick (ltb 0 (tableFault t)) (tableFault t) (pick (ltb (length out) (length (sheetBytes t))) 12 0)
+
+-- what the writer answers: the sheet's length, or the refusal
+unfoldable pub writeAnswer : Table → List ℕ → Writing
+writeAnswer t out =
+    pick (ltb 0 (writeRefusal t out)) (Writing.Refused (writeRefusal t out)) (Writing.Written (length (sheetBytes t)))
+
+-- the output afterwards: the sheet at its front, later bytes as they were; a refusal leaves every byte
+unfoldable pub writeOut : Table → List ℕ → List ℕ
+writeOut t out = pick (ltb 0 (writeRefusal t out)) out (sheetBytes t ++ drop (length (sheetBytes t)) out)

@@ -2,6 +2,7 @@
 mod number;
 mod sheet;
 mod table;
+mod writer;
 
 pub use number::Number;
 pub use number::read_number;
@@ -9,3 +10,5 @@ pub use sheet::Reading;
 pub use sheet::Sheet;
 pub use sheet::read_sheet;
 pub use table::Table;
+pub use writer::Writing;
+pub use writer::write_sheet;

@@ -1,0 +1,62 @@
+-- The bytes of a sheet's tasks, one at a time, and the three ways in which a writing ends. Assumes nothing.
+use Prim.Native.Nat.{ℕ, suc, _+_, _-_, _≤_, _<_}
+use mathlib.Core.Path.{_≡_, refl, sym, ap, _∙_}
+use mathlib.Core.List.{List, [], _∷_, _++_}
+use native.Mathlib.Omega.{arith}
+use lib.Dec.{ltb}
+use lib.ListN.{length, drop, length-append}
+use lib.Seq.{sets, sets-eq}
+use borrow.Author.Tests.{lt-ltb, le-ltb}
+use Rattle.tasks.specs.Table.{tableFault}
+use Rattle.tasks.specs.Sheet.{taskBytes, tasksBytes, sheetBytes, writeRefusal, writeAnswer, writeOut}
+use Rattle.tasks.specs.declared.writer.Writing.the-variants.{Written, Refused}
+use Rattle.tasks.specs.declared.table.Table.{Table}
+
+module _ (t : Table) (n i : ℕ) where
+  -- the tasks that are left: the next one and those after it, or none
+  pub tasks-bytes : i < n → tasksBytes t (n - i) i ≡ taskBytes t i ++ tasksBytes t (n - (i + 1)) (i + 1)
+  unfolding tasksBytes
+  tasks-bytes h = let e : n - i ≡ suc (n - (i + 1)) = omega arith in ap (λ k. tasksBytes t k i) e
+
+  pub tasks-none : n ≤ i → tasksBytes t (n - i) i ≡ []
+  unfolding tasksBytes
+  tasks-none h = let e : n - i ≡ 0 = omega arith in ap (λ k. tasksBytes t k i) e
+
+  pub tasks-length : i < n → length (tasksBytes t (n - i) i) ≡ length (taskBytes t i) + length (tasksBytes t (n - (i + 1)) (i + 1))
+  tasks-length h = ap length (tasks-bytes h) ∙ length-append (taskBytes t i) (tasksBytes t (n - (i + 1)) (i + 1))
+
+  pub tasks-no-length : n ≤ i → length (tasksBytes t (n - i) i) ≡ 0
+  tasks-no-length h = ap length (tasks-none h)
+
+module _ (t : Table) (out : List ℕ) where
+  refusal-fault : 0 < tableFault t → writeRefusal t out ≡ tableFault t
+  unfolding writeRefusal
+  refusal-fault h = rw (lt-ltb 0 (tableFault t) h)
+
+  refusal-short : tableFault t ≡ 0 → length out < length (sheetBytes t) → writeRefusal t out ≡ 12
+  unfolding writeRefusal
+  refusal-short e h = rw (e, lt-ltb (length out) (length (sheetBytes t)) h)
+
+  refusal-none : tableFault t ≡ 0 → length (sheetBytes t) ≤ length out → writeRefusal t out ≡ 0
+  unfolding writeRefusal
+  refusal-none e h = rw (e, le-ltb (length out) (length (sheetBytes t)) h)
+
+  refused : (r : ℕ) → 0 < r → writeRefusal t out ≡ r → (Refused r ≡ writeAnswer t out) × (out ≡ writeOut t out)
+  unfolding writeAnswer writeOut
+  refused r h e = (rw (e, lt-ltb 0 r h), rw (e, lt-ltb 0 r h))
+
+  -- a table that is not valid
+  pub write-fault : 0 < tableFault t → (Refused (tableFault t) ≡ writeAnswer t out) × (out ≡ writeOut t out)
+  write-fault h = refused (tableFault t) h (refusal-fault h)
+
+  -- an output that is too short
+  pub write-short : tableFault t ≡ 0 → length out < length (sheetBytes t) → (Refused 12 ≡ writeAnswer t out) × (out ≡ writeOut t out)
+  write-short e h = refused 12 (omega arith) (refusal-short e h)
+
+  -- the sheet stands at the front of the output
+  pub write-done :
+      tableFault t ≡ 0 → length (sheetBytes t) ≤ length out → (Written (length (sheetBytes t)) ≡ writeAnswer t out) × (sets out 0 (sheetBytes t) ≡ writeOut t out)
+  unfolding writeAnswer writeOut
+  write-done e h =
+      let z : 0 + length (sheetBytes t) ≡ length (sheetBytes t) = omega arith in
+      (rw (refusal-none e h), rw (refusal-none e h) (sets-eq (sheetBytes t) out 0 (omega arith) ∙ ap (λ n. sheetBytes t ++ drop n out) z))
