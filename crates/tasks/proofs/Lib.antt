@@ -9,3 +9,5 @@ pub mod Groups
 pub mod Tables
 pub mod Fields
 pub mod Sheets
+pub mod RoundTrip
+pub mod Again

@@ -2,3 +2,4 @@ pub mod Lists
 pub mod Table
 pub mod Number
 pub mod Sheet
+pub mod Answers

@@ -12,6 +12,7 @@ use Rattle.tasks.specs.Number.{numberBytes, numberAt}
 use Rattle.tasks.specs.declared.number.Number.{Number}
 use Rattle.tasks.specs.declared.number.Number.the-variants.{Value, Refused}
 use Rattle.tasks.specs.declared.table.Table.{Table}
+use Rattle.tasks.specs.declared.sheet.Reading.{Reading}
 use Rattle.tasks.specs.declared.sheet.Reading.the-variants as Reading
 use Rattle.tasks.specs.declared.sheet.Sheet.{Sheet}
 use Rattle.tasks.specs.declared.writer.Writing.{Writing}
@@ -142,3 +143,26 @@ writeAnswer t out =
 -- the output afterwards: the sheet at its front, later bytes as they were; a refusal leaves every byte
 unfoldable pub writeOut : Table → List ℕ → List ℕ
 writeOut t out = pick (ltb 0 (writeRefusal t out)) out (sheetBytes t ++ drop (length (sheetBytes t)) out)
+
+-- ---- read and written again
+
+-- what is answered where the reading is accepted, or its refusal
+abbrev pub ifRead : Reading → Writing → Writing
+ifRead Reading.Accepted w = w
+ifRead (Reading.Refused r) w = Writing.Refused r
+
+abbrev pub outIfRead : Reading → List ℕ → List ℕ → List ℕ
+outIfRead Reading.Accepted new old = new
+outIfRead (Reading.Refused r) new old = old
+
+-- an accepted sheet read and written has the same bytes: the answer, and the output afterwards
+unfoldable pub copyAnswer : List ℕ → List ℕ → Writing
+copyAnswer s out =
+    ifRead (sheetOf s .answer) (pick (ltb (length out) (length s)) (Writing.Refused 12) (Writing.Written (length s)))
+
+unfoldable pub copyOut : List ℕ → List ℕ → List ℕ
+copyOut s out = outIfRead (sheetOf s .answer) (pick (ltb (length out) (length s)) out (s ++ drop (length s) out)) out
+
+-- a valid table written and read is the same table
+unfoldable pub tableAgain : Table → Sheet
+tableAgain t = pick (ltb 0 (tableFault t)) (refusedWith (tableFault t)) (acceptedAs t)

@@ -45,7 +45,8 @@ fn empty_table(policy: u8, m: u8, n: u8) -> Table
     }
 }
 
-fn refused(why: u8) -> Sheet
+// The answer of a sheet that is refused.
+pub(crate) fn refused(why: u8) -> Sheet
     ensures { λ r. ⌜ r ≡ refusedWith why ⌝ }
 {
     Sheet {

@@ -1,0 +1,2 @@
+-- The one statement about the starred examples.
+pub mod Hold

@@ -1,0 +1,52 @@
+use Rattle.tasks.proofs.Again.{copy-refused, copy-accepted}
+use Rattle.tasks.specs.declared.sheet.Sheet.{Sheet}
+use Rattle.tasks.specs.Sheet.{writeAnswer, writeOut}
+use mathlib.Core.Path.{_≡_, refl, sym, ap, _∙_}
+use native.Mathlib.Omega.{arith}
+use borrow.Author.Needs.{needs}
+use Rattle.tasks.proofs.copies.copy_sheet.Statement.{statement}
+use Rattle.tasks.proofs.copies.copy_sheet.Tie as tie
+use Rattle.tasks.proofs.copies.copy_sheet.Reads as reads
+use Rattle.tasks.proofs.copies.copy_sheet.Lts as lts
+use Rattle.tasks.proofs.sheet.read_sheet.Reads as read-sheet-reads
+use Rattle.tasks.proofs.writer.write_sheet.Reads as write-sheet-reads
+
+read-sheet-requires : tie.Need-read-sheet-requires
+read-sheet-requires c κs = search needs
+
+enum-known-answer : tie.Need-enum-known-answer
+enum-known-answer c = search needs
+
+enum-told : tie.Need-enum-told
+enum-told c = search needs
+
+write-sheet-requires : tie.Need-write-sheet-requires
+write-sheet-requires c κs = search needs
+
+returns : tie.Need-returns
+returns c =
+    let a = c .before .before .before .before .before .before .before .args in
+    copy-refused (a .s .now) (a .out .now) _ (ap (λ (x : Sheet). x .answer) (sym (c .before .before .before .before .read-sheet .ensures)) ∙ c .before .answer .given .1)
+
+same-length : tie.Need-same-length
+same-length c = search needs
+
+returns-2 : tie.Need-returns-2
+returns-2 c =
+    let a = c .before .before .before .before .before .before .before .before .before .before .args in
+    let e = c .before .before .before .before .before .before .before .read-sheet .ensures in
+    let t-is = ap (λ (x : Sheet). x .table) e in
+    let w = copy-accepted (a .s .now) (a .out .now) (λ i. omega (arith, c .before .before .before .before .before .before .before .before .before .shared-slice-known .given i)) (ap (λ (x : Sheet). x .answer) (sym e) ∙ c .before .before .before .before .enum-told .given .1) in
+    (c .before .before .write-sheet .ensures .0 ∙ ap (λ t. writeAnswer t (a .out .now)) t-is ∙ w .0, c .before .before .write-sheet .ensures .1 ∙ ap (λ t. writeOut t (a .out .now)) t-is ∙ w .1)
+
+pub copy-sheet-spec : {M : Type 1} → statement M
+copy-sheet-spec =
+    tie.close
+    (tie.spec
+    read-sheet-requires
+    enum-known-answer
+    enum-told
+    write-sheet-requires
+    returns
+    same-length
+    returns-2)
