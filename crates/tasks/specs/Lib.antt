@@ -1,2 +1,5 @@
 pub mod Lists
 pub mod Table
+pub mod State
+pub mod Tick
+pub mod Places

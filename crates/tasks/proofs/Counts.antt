@@ -1,0 +1,72 @@
+-- Counts and searches over the numbers below n: how two of them compare. Assumes nothing.
+use Prim.Native.Nat.{ℕ, zero, suc, _+_, _≤_, _<_}
+use mathlib.Core.Path.{_≡_, refl, sym, ap, _∙_}
+use mathlib.Core.Bool.{Bool, true, false, _||_}
+use native.Mathlib.Omega.{arith}
+use native.Mathlib.Decide.{ℕ-discrete}
+use Rattle.tasks.specs.Lists.{pick, count, any}
+use Rattle.tasks.proofs.Bools.{by-bool, nor-left, nor-right}
+
+pick-le : (a b : Bool) → (a ≡ true → b ≡ true) → pick a 1 0 ≤ pick b 1 0
+pick-le true b f = rw (f refl) (omega arith)
+pick-le false b f = omega arith
+
+-- q holds wherever p does
+pub count-mono : (p q : ℕ → Bool) (n : ℕ) → ((k : ℕ) → k < n → p k ≡ true → q k ≡ true) → count n p ≤ count n q
+unfolding count
+count-mono p q zero f = omega arith
+count-mono p q (suc n) f =
+    omega (arith, count-mono p q n (λ k h. f k (omega arith)), pick-le (p n) (q n) (f n (omega arith)))
+
+-- q holds wherever p does, but perhaps at x
+pub count-but-one :
+    (p q : ℕ → Bool) (x n : ℕ) → ((k : ℕ) → k < n → (k ≡ x → ⊥) → p k ≡ true → q k ≡ true) → count n p ≤ count n q + 1
+unfolding count
+count-but-one p q x zero f = omega arith
+count-but-one p q x (suc n) f =
+    elim (ℕ-discrete n x) [
+      | yes e ↦
+          omega
+          (arith, count-mono p q n (λ k h. f k (omega arith) (λ g. omega arith)), pick-le (p n) true (λ g. refl))
+      | no d ↦
+          omega
+          (arith, count-but-one p q x n (λ k h. f k (omega arith)), pick-le (p n) (q n) (f n (omega arith) d))
+    ]
+
+-- q holds wherever p does, and at x besides
+pub count-less :
+    (p q : ℕ → Bool) (x n : ℕ) → x < n → p x ≡ false → q x ≡ true → ((k : ℕ) → k < n → p k ≡ true → q k ≡ true) → count n p < count n q
+unfolding count
+count-less p q x zero h e g f = absurd (omega arith)
+count-less p q x (suc n) h e g f =
+    elim (ℕ-discrete n x) [
+      | yes y ↦
+          let pe : p n ≡ false = rw y e in
+          let qe : q n ≡ true = rw y g in
+          rw (pe, qe) (omega (arith, count-mono p q n (λ k l. f k (omega arith))))
+      | no d ↦
+          omega
+          (arith, count-less p q x n (omega arith) e g (λ k l. f k (omega arith)), pick-le (p n) (q n) (f n (omega arith)))
+    ]
+
+-- p and q agree
+pub count-same : (p q : ℕ → Bool) (n : ℕ) → ((k : ℕ) → k < n → p k ≡ q k) → count n p ≡ count n q
+unfolding count
+count-same p q zero f = refl
+count-same p q (suc n) f = rw (count-same p q n (λ k h. f k (omega arith)), f n (omega arith))
+
+-- where no number passes, k does not
+pub any-false : (p : ℕ → Bool) (n k : ℕ) → any n p ≡ false → k < n → p k ≡ false
+unfolding any
+any-false p zero k e h = absurd (omega arith)
+any-false p (suc n) k e h =
+    elim (ℕ-discrete k n) [
+      | yes q ↦ rw q (nor-right (any n p) (p n) e)
+      | no q ↦ any-false p n k (nor-left (any n p) (p n) e) (omega arith)
+    ]
+
+-- and back
+pub none-any : (p : ℕ → Bool) (n : ℕ) → ((k : ℕ) → k < n → p k ≡ false) → any n p ≡ false
+unfolding any
+none-any p zero f = refl
+none-any p (suc n) f = rw (none-any p n (λ k h. f k (omega arith)), f n (omega arith))
