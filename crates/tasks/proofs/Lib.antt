@@ -10,3 +10,4 @@ pub mod Choice
 pub mod Place
 pub mod Proper
 pub mod Answered
+pub mod Played

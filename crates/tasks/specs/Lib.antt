@@ -3,3 +3,4 @@ pub mod Table
 pub mod State
 pub mod Tick
 pub mod Places
+pub mod Replay

@@ -1,9 +1,14 @@
-// The lower layer of the verdict engine: the task table and its faults, the state, and one tick.
+// The lower layer of the verdict engine: the task table and its faults, the state, one tick, and the replay of a list.
 mod places;
+mod play;
 mod state;
 mod table;
 mod tick;
 
+pub use play::Outcome;
+pub use play::ReplayAnswer;
+pub use play::Replayed;
+pub use play::replay;
 pub use state::State;
 pub use table::Table;
 pub use tick::TickAnswer;
