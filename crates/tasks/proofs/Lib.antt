@@ -11,3 +11,10 @@ pub mod Fields
 pub mod Sheets
 pub mod RoundTrip
 pub mod Again
+pub mod Order
+pub mod Signed
+pub mod Choice
+pub mod Place
+pub mod Proper
+pub mod Answered
+pub mod Played
