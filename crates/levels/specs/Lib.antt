@@ -1,0 +1,4 @@
+pub mod Index
+pub mod Levels
+pub mod Slots
+pub mod Verdict
