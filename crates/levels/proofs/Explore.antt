@@ -1,15 +1,15 @@
--- The laws of a search level by level: its start, a hunt, the pairs tried, a push, the next level.
-use mathlib.Core.Path.{_≡_, refl, sym, _∙_, ap, subst}
-use mathlib.Core.Logic.{_⊎_, ⊎-elim, _≢_}
+-- The laws of a search level by level: its start, the hunt, the pairs tried, a push, the next level.
+use mathlib.Core.Path.{_≡_, refl, sym, _∙_}
+use mathlib.Core.Logic.{_⊎_, ⊎-elim}
 use mathlib.Core.Logic._⊎_.{inl, inr}
-use mathlib.Core.List.{List, [], _∷_, _++_}
-use Prim.Native.Nat.{ℕ, zero, suc, _+_, _-_, _≤_, _<_, suc-le-suc}
+use mathlib.Core.List.{List, [], _∷_}
+use Prim.Native.Nat.{ℕ, zero, suc, _≤_, _<_, suc-le-suc}
 use native.Mathlib.Omega.{arith}
-use native.Mathlib.Decide.{ℕ-discrete, decLt}
+use native.Mathlib.Decide.{decLt}
 use lib.ListN.{length}
-use Rattle.levels.specs.Verdict.{System, Tick, Replay, Within, Misses, Reaches, Distinct, Holds, Counts, CountAtMost}
+use Rattle.levels.specs.Verdict.{System, Within, Misses, Reaches, Distinct, Holds, CountAtMost}
 use Rattle.levels.specs.Verdict.Tick.{Next, Missed}
-use Rattle.levels.specs.Levels.{Calm, Hunted, Covered, Explored, Storing}
+use Rattle.levels.specs.Levels.{Before, Calm, Hunted, Hunting, Covered, Explored, Storing}
 use Rattle.levels.proofs.Numbered.{split-last, holds-more, push-distinct}
 use Rattle.levels.proofs.Replay.{within-start, within-next, within-more, miss-within, reach-ind}
 
@@ -24,6 +24,7 @@ module _ (sys : System) where
       go [] h r = cc
       go (m ∷ ms) h r = absurd (omega arith)
 
+  -- slot 0 holds the start: level 0 is complete
   module _ (at : ℕ → State) (e : at 0 ≡ start) where
     start-sound : (i : ℕ) → i < 1 → Within sys 0 (at i)
     start-sound i h = let z : i ≡ 0 = omega arith in rw (z, e) (within-start sys 0)
@@ -34,8 +35,8 @@ module _ (sys : System) where
     start-distinct : Distinct at 1
     start-distinct i j hi hj q = omega arith
 
-    counts-zero : (e : ℕ) → e ≤ 0 → CountAtMost sys e 1
-    counts-zero e h = let z : 0 ≡ e = omega arith in rw z at (start-count)
+    start-past : (d : ℕ) → d ≤ 0 → CountAtMost sys d 1
+    start-past d h = let z : 0 ≡ d = omega arith in rw z at (start-count)
       where
         start-count : CountAtMost sys 0 1
         start-count = record { count = 1; counts = record { at = at; distinct = start-distinct; each = start-sound; all = start-full }; most = omega arith }
@@ -53,16 +54,26 @@ module _ (sys : System) where
       closed = λ i h m t q. absurd (omega arith);
       calm = λ i h m t q. omega arith;
       quiet = start-quiet;
-      past = counts-zero;
+      past = start-past;
     }
 
+  -- a level that is hunted: no list of at most d + 1 ticks misses
   pub hunted-lists : {d : ℕ} → Hunted sys d → (l : List Mask) → length l ≤ suc d → Misses sys l → ⊥
-  hunted-lists {d} calm l h w = let (s, m, t, q, e) = miss-within sys d l h w in calm s q m t e
+  hunted-lists {d} hunted l h w = let (s, m, t, q, e) = miss-within sys d l h w in hunted s q m t e
 
-  -- no miss from any slot of the level: no list of at most d + 1 ticks misses
-  pub hunt-law : {at : ℕ → State} {lo hi d : ℕ} → Explored sys at lo hi d
-      → ((i : ℕ) → lo ≤ i → i < hi → Calm sys (at i)) → Hunted sys d
-  hunt-law {at} {lo} {hi} x none s w m t e = go (x .full s w)
+  -- the hunt begins, goes on by a slot from which no mask misses, and ends
+  pub hunt-start : {at : ℕ → State} {lo : ℕ} → Hunting sys at lo lo
+  hunt-start = record { calm = λ j l h m t e. omega arith }
+
+  pub hunt-next : {at : ℕ → State} {lo i : ℕ} → Hunting sys at lo i → Calm sys (at i) → Hunting sys at lo (suc i)
+  hunt-next {at} {lo} {i} x calm = record { calm = λ j l h. go j l (split-last h) }
+    where
+      go : (j : ℕ) → lo ≤ j → (j < i) ⊎ (j ≡ i) → Calm sys (at j)
+      go j l (inl b) = x .calm j l b
+      go j l (inr z) = rw z calm
+
+  pub hunt-law : {at : ℕ → State} {lo hi d : ℕ} → Explored sys at lo hi d → Hunting sys at lo hi → Hunted sys d
+  hunt-law {at} {lo} {hi} x y s w m t e = go (x .full s w)
     where
       go : Holds at hi s → ⊥
       go h = split (decLt (h .place) lo)
@@ -72,17 +83,17 @@ module _ (sys : System) where
 
           split : Dec (h .place < lo) → ⊥
           split (yes l) = x .calm (h .place) l m t here
-          split (no n) = none (h .place) (omega arith) (h .below) m t here
+          split (no n) = y .calm (h .place) (omega arith) (h .below) m t here
 
-  -- the level is hunted: storing begins
-  pub open-law : {at : ℕ → State} {lo hi d : ℕ} → Explored sys at lo hi d → Hunted sys d → Storing sys at hi hi d (λ i m. i < lo)
+  -- the level is hunted: storing begins, and every pair of the earlier levels was tried
+  pub open-law : {at : ℕ → State} {lo hi d : ℕ} → Explored sys at lo hi d → Hunted sys d → Storing sys at hi hi d (Before lo)
   open-law x hunted = record {
     order = omega arith;
     distinct = x .distinct;
     old = x .sound;
     new = λ i h. within-more sys (omega arith) (x .sound i h);
     full = x .full;
-    stored = λ i m h l t e. x .closed i l m t e;
+    stored = λ i m h l. x .closed i l m;
     hunted = hunted;
     past = x .past;
   }
@@ -90,7 +101,7 @@ module _ (sys : System) where
   -- a pair is tried when its successor is stored, or it has none
   pub tried-law : {at : ℕ → State} {hi n d : ℕ} {T U : ℕ → Mask → Type 0} → Storing sys at hi n d T
       → ((i : ℕ) (m : Mask) → i < hi → U i m → T i m ⊎ Covered sys at n (at i) m) → Storing sys at hi n d U
-  tried-law {n} x more = record {
+  tried-law x more = record {
     order = x .order;
     distinct = x .distinct;
     old = x .old;
@@ -106,7 +117,7 @@ module _ (sys : System) where
       → ((i : ℕ) → i < n → at′ i ≡ at i)
       → (i : ℕ) (m : Mask) → i < hi → step (at i) m ≡ Next (at′ n) → (Holds at n (at′ n) → ⊥)
       → Storing sys at′ hi (suc n) d T
-  push-law {at} {at′} {hi} {n} {d} {T} x same i m h e absent = record {
+  push-law {at} {at′} {hi} {n} {d} x same i m h e absent = record {
     order = (let o = x .order in omega arith);
     distinct = push-distinct (x .distinct) same absent;
     old = λ j l. rw (same j (low j l)) (x .old j l);
@@ -124,7 +135,7 @@ module _ (sys : System) where
       fresh j (inl l) = rw (same j l) (x .new j l)
       fresh j (inr z) = rw z (within-next sys (x .old i h) m e)
 
-  -- every successor is stored: the slots hold all that is reached within d + 1 ticks
+  -- every pair is tried: the slots hold all that is reached within d + 1 ticks
   module _ {at : ℕ → State} {hi n d : ℕ} {T : ℕ → Mask → Type 0} (x : Storing sys at hi n d T) (all : (i : ℕ) (m : Mask) → i < hi → T i m) where
     -- a tick from a state within d leads into the slots
     into : (s : State) (m : Mask) (t : State) → Within sys d s → step s m ≡ Next t → Holds at n t
@@ -160,8 +171,8 @@ module _ (sys : System) where
       distinct = x .distinct;
       sound = x .new;
       full = level-full;
-      closed = λ i h m t e. x .stored i m h (all i m h) t e;
-      calm = λ i h m t e. x .hunted (at i) (x .old i h) m t e;
+      closed = λ i h m. x .stored i m h (all i m h);
+      calm = λ i h. x .hunted (at i) (x .old i h);
       quiet = hunted-lists (x .hunted);
       past = level-past;
     }

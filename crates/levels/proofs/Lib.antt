@@ -1,6 +1,7 @@
-pub mod Chains
 pub mod Exist
 pub mod Explore
+pub mod Index
+pub mod Legal
 pub mod Numbered
 pub mod Replay
 pub mod Slots

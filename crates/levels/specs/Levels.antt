@@ -32,6 +32,10 @@ module _ (sys : System) where
   abbrev pub Hunted : ℕ → Type 0
   Hunted d = (s : State) → Within sys d s → Calm s
 
+  -- the hunt through the level's slots stands at slot i: no mask misses from those before it
+  pub record Hunting (at : ℕ → State) (lo i : ℕ) : Type 0 where
+    pub calm : (j : ℕ) → lo ≤ j → j < i → Calm (at j)
+
   -- the successor of s under m, if it has one, is among the first n slots
   abbrev pub Covered : (ℕ → State) → ℕ → State → Mask → Type 0
   Covered at n s m = (t : State) → step s m ≡ Next t → Holds at n t
