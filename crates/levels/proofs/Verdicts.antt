@@ -19,13 +19,13 @@ use Rattle.levels.proofs.Explore.{hunted-lists, level-full}
 module _ (sys : System) where
   open System sys using (State, Mask, start, step)
 
-  -- a miss from slot i of a complete level, under m: Unsafe, with the masks to slot i and then m
+  -- level d is complete, and mask m misses from a state that a list of d ticks reaches: Unsafe, with that list and then m
   pub miss-law : {at : ℕ → State} {lo hi d K : ℕ} → Explored sys at lo hi d → hi ≤ K
-      → (i : ℕ) (path : List Mask) (m : Mask) (t : State) → length path ≡ d → Reaches sys path (at i) → step (at i) m ≡ Missed t
+      → (path : List Mask) (m : Mask) {s t : State} → length path ≡ d → Reaches sys path s → step s m ≡ Missed t
       → Verdict sys K (Unsafe (suc d) hi) (path ++ m ∷ [])
-  miss-law {at} {lo} {hi} {d} {K} x room i path m t long reaches missed = record {
+  miss-law {at} {lo} {hi} {d} {K} x room path m {s} {t} long reaches missed = record {
     unsafe = (λ u. unsafe-if, λ u. tt);
-    safe = (λ b. absurd b, λ s. s .none (least .masks) (least .misses));
+    safe = (λ b. absurd b, λ y. y .none (least .masks) (least .misses));
     noRoom = (λ b. absurd b, λ b. b .0 unsafe-if);
     report = record { least = least; count = rw pred-suc counts; long = least .long; state = t; missed = replayed };
   }

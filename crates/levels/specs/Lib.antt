@@ -1,3 +1,4 @@
+pub mod Compute
 pub mod Index
 pub mod Levels
 pub mod Slots
