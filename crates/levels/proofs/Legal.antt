@@ -25,6 +25,11 @@ module _ (sys : System) where
       → ((m : Mask) → Legal m → (t : State) → step s m ≡ Missed t → ⊥) → Calm sys s
   calm-legal others none m t e = ⊎-elim (λ l. none m l t e) (λ r. refused-not-missed r e) (others m)
 
+  -- the successors of s under the legal masks are among the first n slots, and any other mask is refused
+  pub covered-legal : {at : ℕ → State} {n : ℕ} {s : State} {Legal : Mask → Type 0} → ((m : Mask) → Legal m ⊎ (step s m ≡ Refused))
+      → ((m : Mask) → Legal m → Covered sys at n s m) → (m : Mask) → Covered sys at n s m
+  covered-legal others covered m t e = ⊎-elim (λ l. covered m l t e) (λ r. absurd (refused-not-next r e)) (others m)
+
   -- one mask tried for all: full does not miss from s, and it would where any legal mask does
   pub calm-full : {s : State} {Legal : Mask → Type 0} → ((m : Mask) → Legal m ⊎ (step s m ≡ Refused))
       → (full : Mask) → ((m : Mask) → Legal m → (t : State) → step s m ≡ Missed t → (u : State) × (step s full ≡ Missed u))

@@ -1,3 +1,4 @@
+pub mod Compute
 pub mod Counter
 pub mod Exist
 pub mod Explore
