@@ -1,23 +1,25 @@
--- N(d) exists for every d, where states can be told apart and the legal masks stand on a list: the count of the demand is a number.
+-- Of a finitely branching system every N(d) exists, and L where some list misses: the numbers of the claim are there.
 use mathlib.Core.Path.{_≡_, refl, sym, _∙_, ap}
 use mathlib.Core.Logic.{_⊎_, ⊎-elim}
 use mathlib.Core.Logic._⊎_.{inl, inr}
-use mathlib.Core.List.{List, [], _∷_, List·Memᴰ, List·Memᴰ·not-nil, List·Memᴰ·cases-cons}
+use mathlib.Core.List.{List, [], _∷_, _++_, List·Memᴰ, List·Memᴰ·not-nil, List·Memᴰ·cases-cons}
 use mathlib.Core.List.List·Memᴰ.{List·Memᴰ·head, List·Memᴰ·tail}
-use Prim.Native.Nat.{ℕ, zero, suc, _+_, _%_, _≤_, _<_}
+use Prim.Native.Nat.{ℕ, zero, suc, _≤_, _<_}
 use native.Mathlib.Omega.{arith}
-use native.Mathlib.Decide.{ℕ-discrete}
-use lib.ListN.{length, getD}
-use lib.Dec.{ltb}
+use native.Mathlib.Decide.{decLt}
+use lib.ListN.{length, length-append}
 use mathlib.Core.Bool.{Bool, true, false}
-use Rattle.levels.specs.Verdict.{System, Tick, Within, Distinct, Holds, Numbered, Counts}
+use Rattle.levels.specs.Verdict.{System, Tick, Within, Misses, Distinct, Holds, Numbered, Counts, Least}
 use Rattle.levels.specs.Verdict.Tick.{Next, Missed, Refused}
-use Rattle.levels.proofs.Replay.{within-start, within-next, within-more, reach-ind}
+use Rattle.levels.specs.Levels.{Calm}
+use Rattle.levels.specs.Compute.{FinitelyBranching}
+use Rattle.levels.proofs.Replay.{within-start, within-next, within-more, miss-snoc, reach-ind}
 use Rattle.levels.proofs.Numbered.{split-last, holds-more, push-distinct, extend, extend-low, extend-last}
-use Rattle.levels.proofs.Explore.{within-none}
+use Rattle.levels.proofs.Explore.{within-none, start-law, hunted-lists}
+use Rattle.levels.proofs.Legal.{calm-legal}
 
 -- s is among the first n, or it is not
-pub decHolds : {S : Type 0} → Discrete S → (at : ℕ → S) (n : ℕ) (s : S) → Dec (Holds at n s)
+decHolds : {S : Type 0} → Discrete S → (at : ℕ → S) (n : ℕ) (s : S) → Dec (Holds at n s)
 decHolds eq at zero s = no (λ h. let b = h .below in omega arith)
 decHolds eq at (suc n) s = go (decHolds eq at n s) (eq (at n) s)
   where
@@ -26,10 +28,18 @@ decHolds eq at (suc n) s = go (decHolds eq at n s) (eq (at n) s)
     go (no nh) (yes e) = yes (record { place = n; below = omega arith; same = e })
     go (no nh) (no ne) = no (λ h. ⊎-elim (λ b. nh (record { place = h .place; below = b; same = h .same })) (λ z. ne (rw z at (h .same))) (split-last (h .below)))
 
+-- the states of a finitely branching system can be told apart
+tell : {sys : System} {same : sys .State → sys .State → Bool} {masks : List (sys .Mask)} → FinitelyBranching sys same masks → Discrete (sys .State)
+tell {sys} {same} finite s t = go (same s t) refl
+  where
+    go : (b : Bool) → same s t ≡ b → Dec (s ≡ t)
+    go true e = yes (finite .equal s t e)
+    go false e = no (finite .different s t e)
+
 -- some number of states have the property
-pub record Some {S : Type 0} (P : S → Type 0) : Type 0 where
-  pub count : ℕ
-  pub numbered : Numbered P count
+record Some {S : Type 0} (P : S → Type 0) : Type 0 where
+  count : ℕ
+  numbered : Numbered P count
 
 some-iff : {S : Type 0} {P Q : S → Type 0} → ((s : S) → P s → Q s) → ((s : S) → Q s → P s) → Some P → Some Q
 some-iff f g x = record {
@@ -118,10 +128,32 @@ module _ (sys : System) where
       back u y (inl l) = inl (inr (record { place = y .place; below = l; under = y .under }))
       back u y (inr z) = inr (rw z at (y .under))
 
-  -- N(d) exists
-  pub counts-exist : Discrete State → (masks : List Mask) → ((s : State) (m : Mask) (t : State) → step s m ≡ Next t → List·Memᴰ m masks)
-      → (d : ℕ) → Some (Within sys d)
-  counts-exist eq masks legal zero = record {
+  -- the states within d + 1 ticks are those within d and their successors
+  step-up : {same : State → State → Bool} {masks : List Mask} → FinitelyBranching sys same masks → {d : ℕ} → Some (Within sys d) → Some (Within sys (suc d))
+  step-up {same} {masks} finite {d} x = some-iff {P = Q} {Q = λ u. Within sys (suc d) u}
+      (λ u q. ⊎-elim (λ p. within-more sys (omega arith) p) (λ y. within-next sys (x .numbered .each (y .place) (y .below)) (y .under .mask) (y .under .gives)) q)
+      back (addSlots (tell finite) (x .numbered .at) (x .count) masks x)
+    where
+      Q : State → Type 0
+      Q u = Within sys d u ⊎ From (x .numbered .at) (x .count) masks u
+
+      P : ℕ → State → Type 0
+      P k u = k ≤ suc d → Within sys k u × Q u
+
+      legal : (u : State) (m : Mask) (t : State) → step u m ≡ Next t → List·Memᴰ m masks
+      legal u m t e = ⊎-elim (λ l. l) (λ r. absurd (let z : _≡_ {A = ℕ} 0 1 = cc in omega arith)) (finite .others u m)
+
+      keep : (k : ℕ) (u : State) (m : Mask) (t : State) → P k u → step u m ≡ Next t → P (suc k) t
+      keep k u m t p e h =
+          let q = p (omega arith) in
+          let held = x .numbered .all u (within-more sys (omega arith) (q .0)) in
+          (within-next sys (q .0) m e, inr (record { place = held .place; below = held .below; under = record { mask = m; member = legal u m t e; gives = rw (held .same) e } }))
+
+      back : (u : State) → Within sys (suc d) u → Q u
+      back u w = reach-ind sys P keep (λ h. (within-start sys 0, inl (within-start sys d))) (w .masks) u (w .reaches) (w .short) .1
+
+  some-within : {same : State → State → Bool} {masks : List Mask} → FinitelyBranching sys same masks → (d : ℕ) → Some (Within sys d)
+  some-within finite zero = record {
     count = 1;
     numbered = record {
       at = λ i. start;
@@ -130,24 +162,75 @@ module _ (sys : System) where
       all = λ s w. record { place = 0; below = omega arith; same = within-none sys s w };
     };
   }
-  counts-exist eq masks legal (suc d) = step-up (counts-exist eq masks legal d)
+  some-within finite (suc d) = step-up finite (some-within finite d)
+
+  -- every N(d) exists
+  pub counts-exist : {same : State → State → Bool} {masks : List Mask} → FinitelyBranching sys same masks → (d : ℕ) → (n : ℕ) × Counts sys d n
+  counts-exist finite d = let x = some-within finite d in (x .count, x .numbered)
+
+  -- a mask of the list that misses from s, or none
+  miss-under : (s : State) (ms : List Mask) → ((m : Mask) × (t : State) × (step s m ≡ Missed t)) ⊎ ((m : Mask) → List·Memᴰ m ms → (t : State) → step s m ≡ Missed t → ⊥)
+  miss-under s [] = inr (λ m h t e. List·Memᴰ·not-nil h)
+  miss-under s (m ∷ ms) = go (miss-under s ms) (step s m) refl
     where
-      step-up : Some (Within sys d) → Some (Within sys (suc d))
-      step-up x = some-iff {P = λ u. Within sys d u ⊎ From (x .numbered .at) (x .count) masks u} {Q = λ u. Within sys (suc d) u}
-          (λ u q. ⊎-elim (λ p. within-more sys (omega arith) p) (λ y. within-next sys (x .numbered .each (y .place) (y .below)) (y .under .mask) (y .under .gives)) q)
-          back (addSlots eq (x .numbered .at) (x .count) masks x)
+      none : ((t : State) → step s m ≡ Missed t → ⊥) → ((q : Mask) → List·Memᴰ q ms → (t : State) → step s q ≡ Missed t → ⊥) → (q : Mask) → List·Memᴰ q (m ∷ ms) → (t : State) → step s q ≡ Missed t → ⊥
+      none a b q h t e = ⊎-elim (λ z. a t (rw z at e)) (λ r. b q r t e) (List·Memᴰ·cases-cons h)
+
+      go : ((m : Mask) × (t : State) × (step s m ≡ Missed t)) ⊎ ((q : Mask) → List·Memᴰ q ms → (t : State) → step s q ≡ Missed t → ⊥) → (o : Tick State) → step s m ≡ o
+          → ((m : Mask) × (t : State) × (step s m ≡ Missed t)) ⊎ ((q : Mask) → List·Memᴰ q (m ∷ ms) → (t : State) → step s q ≡ Missed t → ⊥)
+      go (inl x) o e = inl x
+      go (inr x) (Missed t) e = inl (m, t, e)
+      go (inr x) (Next t) e = inr (none (λ u q. let z : _≡_ {A = ℕ} 0 1 = cc in omega arith) x)
+      go (inr x) Refused e = inr (none (λ u q. let z : _≡_ {A = ℕ} 0 1 = cc in omega arith) x)
+
+  -- a miss from a state of the first n, or none
+  miss-among : {same : State → State → Bool} {masks : List Mask} → FinitelyBranching sys same masks → (at : ℕ → State) (n : ℕ)
+      → ((i : ℕ) × (i < n) × (m : Mask) × (t : State) × (step (at i) m ≡ Missed t)) ⊎ ((i : ℕ) → i < n → Calm sys (at i))
+  miss-among finite at zero = inr (λ i h m t e. omega arith)
+  miss-among {same} {masks} finite at (suc n) = go (miss-among finite at n) (miss-under (at n) masks)
+    where
+      go : ((i : ℕ) × (i < n) × (m : Mask) × (t : State) × (step (at i) m ≡ Missed t)) ⊎ ((i : ℕ) → i < n → Calm sys (at i))
+          → ((m : Mask) × (t : State) × (step (at n) m ≡ Missed t)) ⊎ ((m : Mask) → List·Memᴰ m masks → (t : State) → step (at n) m ≡ Missed t → ⊥)
+          → ((i : ℕ) × (i < suc n) × (m : Mask) × (t : State) × (step (at i) m ≡ Missed t)) ⊎ ((i : ℕ) → i < suc n → Calm sys (at i))
+      go (inl x) y = inl (x .0, (let h = x .1 in omega arith), x .2, x .3, x .4)
+      go (inr x) (inl y) = inl (n, omega arith, y .0, y .1, y .2)
+      go (inr x) (inr y) = inr (λ i h. ⊎-elim (λ l. x i l) (λ z. rw z (calm-legal sys (finite .others (at n)) y)) (split-last h))
+
+  -- no list of at most d ticks misses, or there is a least number of ticks of one that does
+  quiet-or-least : {same : State → State → Bool} {masks : List Mask} → FinitelyBranching sys same masks
+      → (d : ℕ) → ((l : List Mask) → length l ≤ d → Misses sys l → ⊥) ⊎ ((L : ℕ) × Least sys L)
+  quiet-or-least finite zero = inl (start-law sys (λ i. start) refl .quiet)
+  quiet-or-least {same} {masks} finite (suc d) = go (quiet-or-least finite d)
+    where
+      x : Some (Within sys d)
+      x = some-within finite d
+
+      go : ((l : List Mask) → length l ≤ d → Misses sys l → ⊥) ⊎ ((L : ℕ) × Least sys L) → ((l : List Mask) → length l ≤ suc d → Misses sys l → ⊥) ⊎ ((L : ℕ) × Least sys L)
+      go (inr y) = inr y
+      go (inl quiet) = by (miss-among finite (x .numbered .at) (x .count))
         where
-          Q : State → Type 0
-          Q u = Within sys d u ⊎ From (x .numbered .at) (x .count) masks u
+          by : ((i : ℕ) × (i < x .count) × (m : Mask) × (t : State) × (step (x .numbered .at i) m ≡ Missed t)) ⊎ ((i : ℕ) → i < x .count → Calm sys (x .numbered .at i))
+              → ((l : List Mask) → length l ≤ suc d → Misses sys l → ⊥) ⊎ ((L : ℕ) × Least sys L)
+          by (inr calm) = inl (hunted-lists sys (λ s w. let h = x .numbered .all s w in rw (h .same) at (calm (h .place) (h .below))))
+          by (inl y) = inr (suc d, record { masks = list; long = exactly (decLt (length list) (suc d)); misses = missed; least = λ l w. far l w (decLt d (length l)) })
+            where
+              within : Within sys d (x .numbered .at (y .0))
+              within = x .numbered .each (y .0) (y .1)
 
-          P : ℕ → State → Type 0
-          P k u = k ≤ suc d → Within sys k u × Q u
+              list : List Mask
+              list = within .masks ++ y .2 ∷ []
 
-          keep : (k : ℕ) (u : State) (m : Mask) (t : State) → P k u → step u m ≡ Next t → P (suc k) t
-          keep k u m t p e h =
-              let q = p (omega arith) in
-              let held = x .numbered .all u (within-more sys (omega arith) (q .0)) in
-              (within-next sys (q .0) m e, inr (record { place = held .place; below = held .below; under = record { mask = m; member = legal u m t e; gives = rw (held .same) e } }))
+              missed : Misses sys list
+              missed = record { tick = suc (length (within .masks)); state = y .3; answer = miss-snoc sys (within .masks) (y .2) (within .reaches) (y .4) }
 
-          back : (u : State) → Within sys (suc d) u → Q u
-          back u w = reach-ind sys P keep (λ h. (within-start sys 0, inl (within-start sys d))) (w .masks) u (w .reaches) (w .short) .1
+              exactly : Dec (length list < suc d) → length list ≡ suc d
+              exactly (yes h) = absurd (quiet list (omega arith) missed)
+              exactly (no nh) = let a = length-append (within .masks) (y .2 ∷ []) in let b = within .short in omega arith
+
+              far : (l : List Mask) → Misses sys l → Dec (d < length l) → suc d ≤ length l
+              far l w (yes h) = h
+              far l w (no nh) = absurd (quiet l (omega arith) w)
+
+  -- where some list misses, L exists
+  pub least-exists : {same : State → State → Bool} {masks : List Mask} → FinitelyBranching sys same masks → (l : List Mask) → Misses sys l → (L : ℕ) × Least sys L
+  least-exists finite l w = ⊎-elim (λ quiet. absurd (quiet l (omega arith) w)) (λ y. y) (quiet-or-least finite (length l))
