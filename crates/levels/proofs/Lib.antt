@@ -6,6 +6,7 @@ pub mod Index
 pub mod Legal
 pub mod Numbered
 pub mod Replay
+pub mod Shortest
 pub mod Slots
 pub mod Trails
 pub mod Verdicts
