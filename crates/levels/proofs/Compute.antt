@@ -376,3 +376,35 @@ module _ (sys : System) (same : sys .State → sys .State → Bool) (masks : Lis
     pub outcome-right : 1 ≤ K → (fuel : ℕ) (a : Answer) (trace : List Mask) → outcome sys same masks fuel K ≡ Answered a trace → Verdict sys K a trace
     unfolding outcome
     outcome-right h fuel a trace e = search-right fuel (ready-start sys K h) a trace e
+
+    -- each level but the last adds a node, and there are at most K
+    search-ends : (fuel : ℕ) {d : ℕ} {old level : List (Node State Mask)} → Ready sys K d old level → K < fuel + length old
+        → search sys same masks fuel K d old level ≡ OutOfFuel → ⊥
+    unfolding search
+    search-ends zero x h e = let r = x .room in omega arith
+    search-ends (suc fuel) {d} {old} {level} x h e = go (λ new y. search-ends fuel {d = suc d} {old = old ++ new} {level = new} y) (hunt (trials step masks level)) refl e
+      where
+        go : ((new : List (Node State Mask)) → Ready sys K (suc d) (old ++ new) new → K < fuel + length (old ++ new) → search sys same masks fuel K (suc d) (old ++ new) new ≡ OutOfFuel → ⊥)
+            → (h : Hunt Mask) → hunt (trials step masks level) ≡ h
+            → huntedBy K d old h (store same K old (Upto []) (trials step masks level)) (λ new. search sys same masks fuel K (suc d) (old ++ new) new) ≡ OutOfFuel → ⊥
+        go ih (Miss l) q e′ = let w : _≡_ {A = ℕ} 0 1 = cc in omega arith
+        go ih Clear q e′ = then (store same K old (Upto []) (trials step masks level)) (store-law K d (length (x .before)) old (trials step masks level) [] (filling x q) (sound x)) e′
+          where
+            then : (l : Level State Mask) → Filled K d (length (x .before)) old [] (trials step masks level) l
+                → storedBy K old l (λ new. search sys same masks fuel K (suc d) (old ++ new) new) ≡ OutOfFuel → ⊥
+            then Full y e″ = let w : _≡_ {A = ℕ} 0 1 = cc in omega arith
+            then (Upto []) y e″ = let w : _≡_ {A = ℕ} 0 1 = cc in omega arith
+            then (Upto (n ∷ ns)) y e″ = ih (n ∷ ns) (ready-next x (n ∷ ns) (y .0) (y .1)) (rw length-append (omega arith)) e″
+
+    -- fuel for K levels is enough
+    pub outcome-ends : 1 ≤ K → (fuel : ℕ) → K ≤ fuel → outcome sys same masks fuel K ≡ OutOfFuel → ⊥
+    unfolding outcome
+    outcome-ends h fuel l e = search-ends fuel (ready-start sys K h) (omega arith) e
+
+    -- so for every K there is a verdict
+    pub verdict-exists : 1 ≤ K → (a : Answer) × (trace : List Mask) × Verdict sys K a trace
+    verdict-exists h = go (outcome sys same masks K K) refl
+      where
+        go : (o : Outcome Mask) → outcome sys same masks K K ≡ o → (a : Answer) × (trace : List Mask) × Verdict sys K a trace
+        go (Answered a trace) e = (a, trace, outcome-right h K a trace e)
+        go OutOfFuel e = absurd (outcome-ends h K (omega arith) e)
