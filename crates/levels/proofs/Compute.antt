@@ -147,7 +147,7 @@ module _ (sys : System) where
   }
 
   -- while its trials are stored
-  record Filling (K d lo : ℕ) (old new : List (Node State Mask)) : Type 0 where
+  record Fill (K d lo : ℕ) (old new : List (Node State Mask)) : Type 0 where
     storing : Storing sys (at (old ++ new)) (length old) (length (old ++ new)) d (Before lo)
     good : (x : Node State Mask) → List·Memᴰ x new → Good (suc d) x
     room : length (old ++ new) ≤ K
@@ -224,10 +224,10 @@ module _ (sys : System) (same : sys .State → sys .State → Bool) (masks : Lis
   module _ (K d lo : ℕ) (old : List (Node State Mask)) where
     -- what becomes of the new nodes
     abbrev Added : List (Node State Mask) → Trial State Mask → Level State Mask → Type 0
-    Added new r (Upto new′) = Filling sys K d lo old new′ × Done sys (old ++ new′) r × ((s : State) → Holds (at sys (old ++ new)) (length (old ++ new)) s → Holds (at sys (old ++ new′)) (length (old ++ new′)) s)
+    Added new r (Upto new′) = Fill sys K d lo old new′ × Done sys (old ++ new′) r × ((s : State) → Holds (at sys (old ++ new)) (length (old ++ new)) s → Holds (at sys (old ++ new′)) (length (old ++ new′)) s)
     Added new r Full = (trace : List Mask) → Verdict sys K (NoRoom K) trace
 
-    added-law : (new : List (Node State Mask)) (r : Trial State Mask) → Filling sys K d lo old new → Sound sys d old r → Added new r (addState same K old new (r .path) (r .answer))
+    added-law : (new : List (Node State Mask)) (r : Trial State Mask) → Fill sys K d lo old new → Sound sys d old r → Added new r (addState same K old new (r .path) (r .answer))
     added-law new r x y = go (r .answer) refl
       where
         here : at sys (old ++ new) (y .place) ≡ at sys old (y .place)
@@ -273,17 +273,17 @@ module _ (sys : System) (same : sys .State → sys .State → Bool) (masks : Lis
 
     -- .. by all trials of a level
     abbrev Filled : List (Node State Mask) → List (Trial State Mask) → Level State Mask → Type 0
-    Filled new rs (Upto new′) = Filling sys K d lo old new′ × ((r : Trial State Mask) → List·Memᴰ r rs → Done sys (old ++ new′) r)
+    Filled new rs (Upto new′) = Fill sys K d lo old new′ × ((r : Trial State Mask) → List·Memᴰ r rs → Done sys (old ++ new′) r)
         × ((s : State) → Holds (at sys (old ++ new)) (length (old ++ new)) s → Holds (at sys (old ++ new′)) (length (old ++ new′)) s)
     Filled new rs Full = (trace : List Mask) → Verdict sys K (NoRoom K) trace
 
-    store-law : (rs : List (Trial State Mask)) (new : List (Node State Mask)) → Filling sys K d lo old new → ((r : Trial State Mask) → List·Memᴰ r rs → Sound sys d old r)
+    store-law : (rs : List (Trial State Mask)) (new : List (Node State Mask)) → Fill sys K d lo old new → ((r : Trial State Mask) → List·Memᴰ r rs → Sound sys d old r)
         → Filled new rs (store same K old (Upto new) rs)
     unfolding store
     store-law [] new x sound = (x, (λ r h. absurd (List·Memᴰ·not-nil h)), λ s h. h)
     store-law (r ∷ rs) new x sound = go (store-law rs) (addState same K old new (r .path) (r .answer)) (added-law new r x (sound r (List·Memᴰ·head refl)))
       where
-        go : ((new : List (Node State Mask)) → Filling sys K d lo old new → ((q : Trial State Mask) → List·Memᴰ q rs → Sound sys d old q) → Filled new rs (store same K old (Upto new) rs))
+        go : ((new : List (Node State Mask)) → Fill sys K d lo old new → ((q : Trial State Mask) → List·Memᴰ q rs → Sound sys d old q) → Filled new rs (store same K old (Upto new) rs))
             → (l : Level State Mask) → Added new r l → Filled new (r ∷ rs) (store same K old l rs)
         go ih Full y = rw (store-full same K old rs) y
         go ih (Upto new₁) y = then (store same K old (Upto new₁) rs) (ih new₁ (y .0) (λ q h. sound q (List·Memᴰ·tail h)))
@@ -319,7 +319,7 @@ module _ (sys : System) (same : sys .State → sys .State → Bool) (masks : Lis
           go : {s : State} → ((y : Node State Mask) × List·Memᴰ y level × (s ≡ y .state)) → Calm sys s
           go y = rw (y .2) (calm-legal sys (finite .others (y .0 .state)) (λ m k t q. hunt-clear (trials step masks level) e (trial step (y .0) m) (in-level step masks level (y .0) m (y .1) k) t q))
 
-      filling : hunt (trials step masks level) ≡ Clear → Filling sys K d (length (x .before)) old []
+      filling : hunt (trials step masks level) ≡ Clear → Fill sys K d (length (x .before)) old []
       filling e = record {
         storing = rw (append-nil old) (open-law sys (x .explored) (hunted e));
         good = λ y m. absurd (List·Memᴰ·not-nil m);
@@ -327,7 +327,7 @@ module _ (sys : System) (same : sys .State → sys .State → Bool) (masks : Lis
       }
 
       -- every pair is tried
-      complete : (new : List (Node State Mask)) → Filling sys K d (length (x .before)) old new → ((r : Trial State Mask) → List·Memᴰ r (trials step masks level) → Done sys (old ++ new) r)
+      complete : (new : List (Node State Mask)) → Fill sys K d (length (x .before)) old new → ((r : Trial State Mask) → List·Memᴰ r (trials step masks level) → Done sys (old ++ new) r)
           → Storing sys (at sys (old ++ new)) (length old) (length (old ++ new)) d (Before (length old))
       complete new y done = tried-law sys (y .storing) (λ i m h u. go i m h (decLt i (length (x .before))))
         where
@@ -338,10 +338,10 @@ module _ (sys : System) (same : sys .State → sys .State → Bool) (masks : Lis
               let e : at sys (old ++ new) i ≡ y .0 .state = at-front sys old new i h ∙ y .2 in
               inr (rw e (covered-legal sys (finite .others (y .0 .state)) (λ q k. done (trial step (y .0) q) (in-level step masks level (y .0) q (y .1) k)) m))
 
-      safe-found : Filling sys K d (length (x .before)) old [] → ((r : Trial State Mask) → List·Memᴰ r (trials step masks level) → Done sys (old ++ []) r) → (trace : List Mask) → Verdict sys K (Safe (length old)) trace
+      safe-found : Fill sys K d (length (x .before)) old [] → ((r : Trial State Mask) → List·Memᴰ r (trials step masks level) → Done sys (old ++ []) r) → (trace : List Mask) → Verdict sys K (Safe (length old)) trace
       safe-found y done trace = safe-law sys (rw (append-nil old) at (complete [] y done)) (λ i m h. h) K (x .room) trace
 
-      ready-next : (new : List (Node State Mask)) → Filling sys K d (length (x .before)) old new → ((r : Trial State Mask) → List·Memᴰ r (trials step masks level) → Done sys (old ++ new) r)
+      ready-next : (new : List (Node State Mask)) → Fill sys K d (length (x .before)) old new → ((r : Trial State Mask) → List·Memᴰ r (trials step masks level) → Done sys (old ++ new) r)
           → Ready sys K (suc d) (old ++ new) new
       ready-next new y done = record {
         before = old;

@@ -37,8 +37,8 @@ module _ (sys : System) where
   calm-full others full grows none = calm-legal others (λ m l t e. let (u, q) = grows m l t e in none u q)
 
   -- a row: the masks of slot i, of which none is done at first
-  pub row-open : {at : ℕ → State} {hi n d i : ℕ} → Storing sys at hi n d (Before i) → Storing sys at hi n d (Row i (λ m. ⊥))
-  row-open x = tried-law sys x (λ j m h u. ⊎-elim (λ l. inl l) (λ q. absurd (q .1)) u)
+  pub row-open : {at : ℕ → State} {hi n d i : ℕ} {Done : Mask → Type 0} → Storing sys at hi n d (Before i) → ((q : Mask) → Done q → ⊥) → Storing sys at hi n d (Row i Done)
+  row-open x none = tried-law sys x (λ j m h u. ⊎-elim (λ l. inl l) (λ q. absurd (none m (q .1))) u)
 
   -- mask m is done: its successor is among the slots, or it has none
   pub row-next : {at : ℕ → State} {hi n d i : ℕ} {Done Done′ : Mask → Type 0} → Storing sys at hi n d (Row i Done)

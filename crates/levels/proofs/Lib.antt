@@ -8,5 +8,6 @@ pub mod Numbered
 pub mod Replay
 pub mod Shortest
 pub mod Slots
+pub mod Steps
 pub mod Trails
 pub mod Verdicts

@@ -4,12 +4,12 @@ use mathlib.Core.Logic.{_⊎_}
 use mathlib.Core.Logic._⊎_.{inl, inr}
 use Prim.Native.Nat.{ℕ, suc, _-_, _≤_, _<_}
 use native.Mathlib.Omega.{arith}
-use Rattle.levels.specs.Verdict.{System, Tick, Holds}
+use Rattle.levels.specs.Verdict.{System, Answer}
 use Rattle.levels.specs.Verdict.Tick.{Next}
-use Rattle.levels.specs.Verdict.Answer.{Unsafe, Safe}
-use Rattle.levels.specs.Slots.{SlotRule, Stored, Complete}
+use Rattle.levels.specs.Verdict.Answer.{Unsafe, Safe, NoRoom}
+use Rattle.levels.specs.Slots.{SlotRule, Stored, Complete, countOf}
 use Rattle.levels.specs.Levels.{Explored, Storing}
-use Rattle.levels.proofs.Numbered.{split-last}
+use Rattle.levels.proofs.Numbered.{split-last, holds-more}
 use Rattle.levels.proofs.Replay.{reached}
 use Rattle.levels.proofs.Verdicts.{reached-within}
 
@@ -47,6 +47,29 @@ module _ (sys : System) where
           let q : parent i < n = (let r = x .earlier i l b in omega arith) in
           rw (ps i b, ms i b, ss i b, ss (parent i) q) (x .gives i l b)
       gives i l (inr z) = rw (z, ss (parent′ n) low) e
+
+  -- other bytes of the slots do not matter
+  pub rule-same : {at at′ : ℕ → State} {parent parent′ : ℕ → ℕ} {mask mask′ : ℕ → Mask} {zeroth : Mask} {n : ℕ} → SlotRule sys at parent mask zeroth n → 0 < n
+      → ((i : ℕ) → i < n → at′ i ≡ at i) → ((i : ℕ) → i < n → parent′ i ≡ parent i) → ((i : ℕ) → i < n → mask′ i ≡ mask i)
+      → SlotRule sys at′ parent′ mask′ zeroth n
+  rule-same {at} {at′} {parent} {parent′} {mask} {mask′} {zeroth} {n} x pos ss ps ms = record {
+    root = ss 0 pos ∙ x .root;
+    root-parent = ps 0 pos ∙ x .root-parent;
+    root-mask = ms 0 pos ∙ x .root-mask;
+    earlier = λ i l h. rw (ps i h) (x .earlier i l h);
+    gives = λ i l h. (let q : parent i < n = (let r = x .earlier i l h in omega arith) in rw (ps i h, ms i h, ss i h, ss (parent i) q) (x .gives i l h));
+  }
+
+  pub stored-same : {at at′ : ℕ → State} {n : ℕ} → Stored sys at n → ((i : ℕ) → i < n → at′ i ≡ at i) → Stored sys at′ n
+  stored-same x ss = record {
+    distinct = λ i j hi hj q. x .distinct i j hi hj (sym (ss i hi) ∙ q ∙ ss j hj);
+    reached = λ i h. rw (ss i h) (x .reached i h);
+  }
+
+  pub complete-same : {at at′ : ℕ → State} (a : Answer) → Complete sys at a → ((i : ℕ) → i < countOf a → at′ i ≡ at i) → Complete sys at′ a
+  complete-same (Unsafe L n) x ss = λ s w. holds-more (omega arith) ss (x s w)
+  complete-same (Safe n) x ss = λ s r. holds-more (omega arith) ss (x s r)
+  complete-same (NoRoom n) x ss = tt
 
   -- the slots of a complete level, and under Unsafe they are all
   pub level-stored : {at : ℕ → State} {lo hi d : ℕ} → Explored sys at lo hi d → Stored sys at hi

@@ -1,14 +1,13 @@
 -- The trails through the parents: one to each slot of a level, kept by a push, and longer by one mask at the next level.
-use mathlib.Core.Path.{_≡_, refl, sym, _∙_, ap, subst}
-use mathlib.Core.Logic.{_⊎_, ⊎-elim}
+use mathlib.Core.Path.{_≡_, refl, sym, _∙_}
+use mathlib.Core.Logic.{_⊎_}
 use mathlib.Core.Logic._⊎_.{inl, inr}
 use mathlib.Core.List.{List, [], _∷_, _++_}
-use Prim.Native.Nat.{ℕ, zero, suc, _+_, _-_, _≤_, _<_, suc-le-suc}
+use Prim.Native.Nat.{ℕ, zero, suc, _≤_, _<_}
 use native.Mathlib.Omega.{arith}
 use lib.ListN.{length, length-append}
-use Rattle.levels.specs.Verdict.{System, Tick, Replay, Reaches}
-use Rattle.levels.specs.Verdict.Tick.{Next, Missed, Refused}
-use Rattle.levels.specs.Verdict.Replay.{Kept}
+use Rattle.levels.specs.Verdict.{System, Reaches}
+use Rattle.levels.specs.Verdict.Tick.{Next}
 use Rattle.levels.specs.Levels.{trail, Trailed, Grown}
 use Rattle.levels.proofs.Replay.{reach-snoc}
 use Rattle.levels.proofs.Numbered.{split-last}

@@ -6,7 +6,8 @@ use mathlib.Core.List.{List, [], _∷_, _++_}
 use Prim.Native.Nat.{ℕ, zero, suc, _≤_, _<_}
 use lib.ListN.{length}
 use Rattle.levels.specs.Verdict.{System, Tick, Within, Misses, Reaches, Distinct, Holds, CountAtMost}
-use Rattle.levels.specs.Verdict.Tick.{Next, Missed, Refused}
+use Rattle.levels.specs.Verdict.Tick.{Next, Missed}
+use Rattle.levels.specs.Slots.{SlotRule}
 
 -- the masks on the way to slot i through k parents
 abbrev pub trail : {M : Type 0} → (ℕ → ℕ) → (ℕ → M) → ℕ → ℕ → List M
@@ -74,3 +75,18 @@ module _ (sys : System) where
     pub from : (i : ℕ) → hi ≤ i → i < n → lo ≤ parent i
     pub below : (i : ℕ) → hi ≤ i → i < n → parent i < hi
     pub gives : (i : ℕ) → hi ≤ i → i < n → step (at (parent i)) (mask i) ≡ Next (at i)
+
+  -- the search stands at level d: the slots before hi are all of it, with their trails and by the slot rule
+  pub record Standing (at : ℕ → State) (parent : ℕ → ℕ) (mask : ℕ → Mask) (zeroth : Mask) (lo hi d : ℕ) : Type 0 where
+    pub deep : d < hi
+    pub explored : Explored at lo hi d
+    pub low : (i : ℕ) → i < hi → parent i < hi
+    pub trailed : Trailed at parent mask lo hi d
+    pub rule : SlotRule sys at parent mask zeroth hi
+
+  -- the search fills slots with the successors of level d
+  pub record Filling (at : ℕ → State) (parent : ℕ → ℕ) (mask : ℕ → Mask) (zeroth : Mask) (lo hi n d : ℕ) (Tried : ℕ → Mask → Type 0) : Type 0 where
+    pub deep : d < hi
+    pub storing : Storing at hi n d Tried
+    pub grown : Grown at parent mask lo hi n d
+    pub rule : SlotRule sys at parent mask zeroth n
