@@ -79,18 +79,24 @@ hunt-clear {S} {M} (x ∷ xs) e r h t q = go (hunt-clear xs) (x .answer) refl e 
     go ih Refused z e′ (inl y) = let w : _≡_ {A = ℕ} 0 1 = cc (ap (λ (a : Trial S M). a .answer) y) in omega arith
     go ih Refused z e′ (inr y) = ih e′ r y t q
 
-hunt-miss : {S M : Type 0} (rs : List (Trial S M)) (l : List M) → hunt rs ≡ Miss l → (r : Trial S M) × List·Memᴰ r rs × (r .path ≡ l) × (t : S) × (r .answer ≡ Missed t)
+record Missing {S M : Type 0} (rs : List (Trial S M)) (l : List M) : Type 0 where
+  found : Trial S M
+  member : List·Memᴰ found rs
+  path : found .path ≡ l
+  state : S
+  missed : found .answer ≡ Missed state
+
+hunt-miss : {S M : Type 0} (rs : List (Trial S M)) (l : List M) → hunt rs ≡ Miss l → Missing rs l
 unfolding hunt
 hunt-miss [] l e = absurd (let w : _≡_ {A = ℕ} 0 1 = cc in omega arith)
 hunt-miss {S} {M} (x ∷ xs) l e = go (hunt-miss xs l) (x .answer) refl e
   where
-    later : ((r : Trial S M) × List·Memᴰ r xs × (r .path ≡ l) × (t : S) × (r .answer ≡ Missed t)) → (r : Trial S M) × List·Memᴰ r (x ∷ xs) × (r .path ≡ l) × (t : S) × (r .answer ≡ Missed t)
-    later y = (y .0, List·Memᴰ·tail (y .1), y .2, y .3, y .4)
+    later : Missing xs l → Missing (x ∷ xs) l
+    later y = record { found = y .found; member = List·Memᴰ·tail (y .member); path = y .path; state = y .state; missed = y .missed }
 
-    go : (hunt xs ≡ Miss l → (r : Trial S M) × List·Memᴰ r xs × (r .path ≡ l) × (t : S) × (r .answer ≡ Missed t))
-        → (o : Tick S) → x .answer ≡ o → huntBy o (x .path) (hunt xs) ≡ Miss l → (r : Trial S M) × List·Memᴰ r (x ∷ xs) × (r .path ≡ l) × (t : S) × (r .answer ≡ Missed t)
+    go : (hunt xs ≡ Miss l → Missing xs l) → (o : Tick S) → x .answer ≡ o → huntBy o (x .path) (hunt xs) ≡ Miss l → Missing (x ∷ xs) l
     go ih (Next u) z e′ = later (ih e′)
-    go ih (Missed u) z e′ = (x, List·Memᴰ·head refl, cc, u, z)
+    go ih (Missed u) z e′ = record { found = x; member = List·Memᴰ·head refl; path = cc; state = u; missed = z }
     go ih Refused z e′ = later (ih e′)
 
 -- no room stays no room
@@ -109,6 +115,10 @@ module _ (sys : System) where
   abbrev at : List (Node State Mask) → ℕ → State
   at xs i = getD xs i first .state
 
+  -- s is the state of a node
+  abbrev In : List (Node State Mask) → State → Type 0
+  In xs s = Holds (at xs) (length xs) s
+
   -- a node's list is of d ticks and reaches its state
   abbrev Good : ℕ → Node State Mask → Type 0
   Good d x = (length (x .path) ≡ d) × Reaches sys (x .path) (x .state)
@@ -118,7 +128,7 @@ module _ (sys : System) where
   place-mem (x ∷ xs) zero h = List·Memᴰ·head refl
   place-mem (x ∷ xs) (suc j) h = List·Memᴰ·tail (place-mem xs j (omega arith))
 
-  mem-place : (xs : List (Node State Mask)) (x : Node State Mask) → List·Memᴰ x xs → Holds (at xs) (length xs) (x .state)
+  mem-place : (xs : List (Node State Mask)) (x : Node State Mask) → List·Memᴰ x xs → In xs (x .state)
   mem-place [] x h = absurd (List·Memᴰ·not-nil h)
   mem-place (y ∷ xs) x h = ⊎-elim (λ e. record { place = 0; below = omega arith; same = rw e })
       (λ t. let z = mem-place xs x t in record { place = suc (z .place); below = (let b = z .below in omega arith); same = z .same }) (List·Memᴰ·cases-cons h)
@@ -163,7 +173,7 @@ module _ (sys : System) where
 
   -- the trial's state, if it has one, is among the nodes
   abbrev Done : List (Node State Mask) → Trial State Mask → Type 0
-  Done xs r = (t : State) → r .answer ≡ Next t → Holds (at xs) (length xs) t
+  Done xs r = (t : State) → r .answer ≡ Next t → In xs t
 
   sound-trial : {K d : ℕ} {old level : List (Node State Mask)} → Ready K d old level → (r : Trial State Mask) → Of step level r → Sound d old r
   sound-trial {K} {d} {old} {level} x r o = rw (o .is) (record {
@@ -175,7 +185,7 @@ module _ (sys : System) where
     reaches = λ t e. reach-snoc sys (o .node .path) (o .mask) (g .1) e;
   })
     where
-      h : Holds (at level) (length level) (o .node .state)
+      h : In level (o .node .state)
       h = mem-place level (o .node) (o .member)
 
       g : Good d (o .node)
@@ -200,22 +210,22 @@ module _ (sys : System) where
 module _ (sys : System) (same : sys .State → sys .State → Bool) (masks : List (sys .Mask)) (finite : FinitelyBranching sys same masks) where
   open System sys using (State, Mask, start, step)
 
-  known-yes : (xs : List (Node State Mask)) (s : State) → known same xs s ≡ true → Holds (at sys xs) (length xs) s
+  known-yes : (xs : List (Node State Mask)) (s : State) → known same xs s ≡ true → In sys xs s
   unfolding known
   known-yes [] s e = absurd (let w : _≡_ {A = ℕ} 0 1 = cc in omega arith)
   known-yes (x ∷ xs) s e = go (known-yes xs s) (same (x .state) s) refl e
     where
-      go : (known same xs s ≡ true → Holds (at sys xs) (length xs) s) → (b : Bool) → same (x .state) s ≡ b → orElse b (known same xs s) ≡ true
-          → Holds (at sys (x ∷ xs)) (length (x ∷ xs)) s
+      go : (known same xs s ≡ true → In sys xs s) → (b : Bool) → same (x .state) s ≡ b → orElse b (known same xs s) ≡ true
+          → In sys (x ∷ xs) s
       go ih true q e′ = record { place = 0; below = omega arith; same = finite .equal (x .state) s q }
       go ih false q e′ = let h = ih e′ in record { place = suc (h .place); below = (let b = h .below in omega arith); same = h .same }
 
-  known-no : (xs : List (Node State Mask)) (s : State) → known same xs s ≡ false → Holds (at sys xs) (length xs) s → ⊥
+  known-no : (xs : List (Node State Mask)) (s : State) → known same xs s ≡ false → In sys xs s → ⊥
   unfolding known
   known-no [] s e h = let b = h .below in omega arith
   known-no (x ∷ xs) s e h = go (known-no xs s) (same (x .state) s) refl e (h .place) (h .below) (h .same)
     where
-      go : (known same xs s ≡ false → Holds (at sys xs) (length xs) s → ⊥) → (b : Bool) → same (x .state) s ≡ b → orElse b (known same xs s) ≡ false
+      go : (known same xs s ≡ false → In sys xs s → ⊥) → (b : Bool) → same (x .state) s ≡ b → orElse b (known same xs s) ≡ false
           → (i : ℕ) → i < length (x ∷ xs) → at sys (x ∷ xs) i ≡ s → ⊥
       go ih true q e′ i l z = let w : _≡_ {A = ℕ} 0 1 = cc in omega arith
       go ih false q e′ zero l z = finite .different (x .state) s q z
@@ -224,7 +234,7 @@ module _ (sys : System) (same : sys .State → sys .State → Bool) (masks : Lis
   module _ (K d lo : ℕ) (old : List (Node State Mask)) where
     -- what becomes of the new nodes
     abbrev Added : List (Node State Mask) → Trial State Mask → Level State Mask → Type 0
-    Added new r (Upto new′) = Fill sys K d lo old new′ × Done sys (old ++ new′) r × ((s : State) → Holds (at sys (old ++ new)) (length (old ++ new)) s → Holds (at sys (old ++ new′)) (length (old ++ new′)) s)
+    Added new r (Upto new′) = Fill sys K d lo old new′ × Done sys (old ++ new′) r × ((s : State) → In sys (old ++ new) s → In sys (old ++ new′) s)
     Added new r Full = (trace : List Mask) → Verdict sys K (NoRoom K) trace
 
     added-law : (new : List (Node State Mask)) (r : Trial State Mask) → Fill sys K d lo old new → Sound sys d old r → Added new r (addState same K old new (r .path) (r .answer))
@@ -274,7 +284,7 @@ module _ (sys : System) (same : sys .State → sys .State → Bool) (masks : Lis
     -- .. by all trials of a level
     abbrev Filled : List (Node State Mask) → List (Trial State Mask) → Level State Mask → Type 0
     Filled new rs (Upto new′) = Fill sys K d lo old new′ × ((r : Trial State Mask) → List·Memᴰ r rs → Done sys (old ++ new′) r)
-        × ((s : State) → Holds (at sys (old ++ new)) (length (old ++ new)) s → Holds (at sys (old ++ new′)) (length (old ++ new′)) s)
+        × ((s : State) → In sys (old ++ new) s → In sys (old ++ new′) s)
     Filled new rs Full = (trace : List Mask) → Verdict sys K (NoRoom K) trace
 
     store-law : (rs : List (Trial State Mask)) (new : List (Node State Mask)) → Fill sys K d lo old new → ((r : Trial State Mask) → List·Memᴰ r rs → Sound sys d old r)
@@ -303,21 +313,19 @@ module _ (sys : System) (same : sys .State → sys .State → Bool) (masks : Lis
       sound r h = sound-trial sys x r (of-level step masks level r h)
 
       miss-found : (l : List Mask) → hunt (trials step masks level) ≡ Miss l → Verdict sys K (Unsafe (suc d) (length old)) l
-      miss-found l e = go (hunt-miss (trials step masks level) l e)
-        where
-          go : ((r : Trial State Mask) × List·Memᴰ r (trials step masks level) × (r .path ≡ l) × (t : State) × (r .answer ≡ Missed t)) → Verdict sys K (Unsafe (suc d) (length old)) l
-          go y =
-              let o = of-level step masks level (y .0) (y .1) in
-              let g = x .good (o .node) (o .member) in
-              let is : l ≡ o .node .path ++ o .mask ∷ [] = sym (y .2) ∙ ap (λ (r : Trial State Mask). r .path) (o .is) in
-              let missed : step (o .node .state) (o .mask) ≡ Missed (y .3) = sym (ap (λ (r : Trial State Mask). r .answer) (o .is)) ∙ y .4 in
-              rw is (miss-law sys (x .explored) (x .room) (o .node .path) (o .mask) (g .0) (g .1) missed)
+      miss-found l e =
+          let y = hunt-miss (trials step masks level) l e in
+          let o = of-level step masks level (y .found) (y .member) in
+          let g = x .good (o .node) (o .member) in
+          let is : l ≡ o .node .path ++ o .mask ∷ [] = sym (y .path) ∙ ap (λ (r : Trial State Mask). r .path) (o .is) in
+          let missed : step (o .node .state) (o .mask) ≡ Missed (y .state) = sym (ap (λ (r : Trial State Mask). r .answer) (o .is)) ∙ y .missed in
+          rw is (miss-law sys (x .explored) (x .room) (o .node .path) (o .mask) (g .0) (g .1) missed)
 
       hunted : hunt (trials step masks level) ≡ Clear → Hunted sys d
       hunted e = hunt-law sys (x .explored) (record { calm = λ j l h. go (level-node sys x j l h) })
         where
           go : {s : State} → ((y : Node State Mask) × List·Memᴰ y level × (s ≡ y .state)) → Calm sys s
-          go y = rw (y .2) (calm-legal sys (finite .others (y .0 .state)) (λ m k t q. hunt-clear (trials step masks level) e (trial step (y .0) m) (in-level step masks level (y .0) m (y .1) k) t q))
+          go y = rw (y .2) (calm-legal sys (y .0 .state) (finite .others (y .0 .state)) (λ m k t q. hunt-clear (trials step masks level) e (trial step (y .0) m) (in-level step masks level (y .0) m (y .1) k) t q))
 
       filling : hunt (trials step masks level) ≡ Clear → Fill sys K d (length (x .before)) old []
       filling e = record {
@@ -336,7 +344,7 @@ module _ (sys : System) (same : sys .State → sys .State → Bool) (masks : Lis
           go i m h (no nl) =
               let y = level-node sys x i (omega arith) h in
               let e : at sys (old ++ new) i ≡ y .0 .state = at-front sys old new i h ∙ y .2 in
-              inr (rw e (covered-legal sys (finite .others (y .0 .state)) (λ q k. done (trial step (y .0) q) (in-level step masks level (y .0) q (y .1) k)) m))
+              inr (rw e (covered-legal sys (y .0 .state) (finite .others (y .0 .state)) (λ q k. done (trial step (y .0) q) (in-level step masks level (y .0) q (y .1) k)) m))
 
       safe-found : Fill sys K d (length (x .before)) old [] → ((r : Trial State Mask) → List·Memᴰ r (trials step masks level) → Done sys (old ++ []) r) → (trace : List Mask) → Verdict sys K (Safe (length old)) trace
       safe-found y done trace = safe-law sys (rw (append-nil old) at (complete [] y done)) (λ i m h. h) K (x .room) trace
@@ -351,55 +359,42 @@ module _ (sys : System) (same : sys .State → sys .State → Bool) (masks : Lis
         room = y .room;
       }
 
-    search-right : (fuel : ℕ) {d : ℕ} {old level : List (Node State Mask)} → Ready sys K d old level → (a : Answer) (trace : List Mask)
-        → search sys same masks fuel K d old level ≡ Answered a trace → Verdict sys K a trace
+    -- the verdict, or no answer after b levels and nodes
+    abbrev Right : ℕ → Outcome Mask → Type 0
+    Right b (Answered a trace) = Verdict sys K a trace
+    Right b OutOfFuel = b ≤ K
+
+    right-more : {b c : ℕ} → b ≤ c → (o : Outcome Mask) → Right c o → Right b o
+    right-more h (Answered a trace) x = x
+    right-more h OutOfFuel x = omega arith
+
+    -- each level but the last adds a node, and there are at most K
+    search-right : (fuel : ℕ) {d : ℕ} {old level : List (Node State Mask)} → Ready sys K d old level → Right (fuel + length old) (search sys same masks fuel K d old level)
     unfolding search
-    search-right zero x a trace e = absurd (let w : _≡_ {A = ℕ} 0 1 = cc in omega arith)
-    search-right (suc fuel) {d} {old} {level} x a trace e = go (λ new y. search-right fuel {d = suc d} {old = old ++ new} {level = new} y a trace) (hunt (trials step masks level)) refl e
+    search-right zero x = let r = x .room in omega arith
+    search-right (suc fuel) {d} {old} {level} x = go (λ new y. search-right fuel {d = suc d} {old = old ++ new} {level = new} y) (hunt (trials step masks level)) refl
       where
-        go : ((new : List (Node State Mask)) → Ready sys K (suc d) (old ++ new) new → search sys same masks fuel K (suc d) (old ++ new) new ≡ Answered a trace → Verdict sys K a trace)
+        go : ((new : List (Node State Mask)) → Ready sys K (suc d) (old ++ new) new → Right (fuel + length (old ++ new)) (search sys same masks fuel K (suc d) (old ++ new) new))
             → (h : Hunt Mask) → hunt (trials step masks level) ≡ h
-            → huntedBy K d old h (store same K old (Upto []) (trials step masks level)) (λ new. search sys same masks fuel K (suc d) (old ++ new) new) ≡ Answered a trace → Verdict sys K a trace
-        go ih (Miss l) q e′ =
-            let i : Unsafe (suc d) (length old) ≡ a = cc in
-            let j : l ≡ trace = cc in
-            rw (i, j) at (miss-found x l q)
-        go ih Clear q e′ = then (store same K old (Upto []) (trials step masks level)) (store-law K d (length (x .before)) old (trials step masks level) [] (filling x q) (sound x)) e′
+            → Right (suc fuel + length old) (huntedBy K d old h (store same K old (Upto []) (trials step masks level)) (λ new. search sys same masks fuel K (suc d) (old ++ new) new))
+        go ih (Miss l) e = miss-found x l e
+        go ih Clear e = then (store same K old (Upto []) (trials step masks level)) (store-law K d (length (x .before)) old (trials step masks level) [] (filling x e) (sound x))
           where
             then : (l : Level State Mask) → Filled K d (length (x .before)) old [] (trials step masks level) l
-                → storedBy K old l (λ new. search sys same masks fuel K (suc d) (old ++ new) new) ≡ Answered a trace → Verdict sys K a trace
-            then Full y e″ = let i : NoRoom K ≡ a = cc in rw i at (y trace)
-            then (Upto []) y e″ = let i : Safe (length old) ≡ a = cc in rw i at (safe-found x (y .0) (y .1) trace)
-            then (Upto (n ∷ ns)) y e″ = ih (n ∷ ns) (ready-next x (n ∷ ns) (y .0) (y .1)) e″
+                → Right (suc fuel + length old) (storedBy K old l (λ new. search sys same masks fuel K (suc d) (old ++ new) new))
+            then Full y = y []
+            then (Upto []) y = safe-found x (y .0) (y .1) []
+            then (Upto (n ∷ ns)) y = right-more (rw length-append (omega arith)) (search sys same masks fuel K (suc d) (old ++ n ∷ ns) (n ∷ ns)) (ih (n ∷ ns) (ready-next x (n ∷ ns) (y .0) (y .1)))
 
     -- the computation's answer is the verdict
     pub outcome-right : 1 ≤ K → (fuel : ℕ) (a : Answer) (trace : List Mask) → outcome sys same masks fuel K ≡ Answered a trace → Verdict sys K a trace
     unfolding outcome
-    outcome-right h fuel a trace e = search-right fuel (ready-start sys K h) a trace e
-
-    -- each level but the last adds a node, and there are at most K
-    search-ends : (fuel : ℕ) {d : ℕ} {old level : List (Node State Mask)} → Ready sys K d old level → K < fuel + length old
-        → search sys same masks fuel K d old level ≡ OutOfFuel → ⊥
-    unfolding search
-    search-ends zero x h e = let r = x .room in omega arith
-    search-ends (suc fuel) {d} {old} {level} x h e = go (λ new y. search-ends fuel {d = suc d} {old = old ++ new} {level = new} y) (hunt (trials step masks level)) refl e
-      where
-        go : ((new : List (Node State Mask)) → Ready sys K (suc d) (old ++ new) new → K < fuel + length (old ++ new) → search sys same masks fuel K (suc d) (old ++ new) new ≡ OutOfFuel → ⊥)
-            → (h : Hunt Mask) → hunt (trials step masks level) ≡ h
-            → huntedBy K d old h (store same K old (Upto []) (trials step masks level)) (λ new. search sys same masks fuel K (suc d) (old ++ new) new) ≡ OutOfFuel → ⊥
-        go ih (Miss l) q e′ = let w : _≡_ {A = ℕ} 0 1 = cc in omega arith
-        go ih Clear q e′ = then (store same K old (Upto []) (trials step masks level)) (store-law K d (length (x .before)) old (trials step masks level) [] (filling x q) (sound x)) e′
-          where
-            then : (l : Level State Mask) → Filled K d (length (x .before)) old [] (trials step masks level) l
-                → storedBy K old l (λ new. search sys same masks fuel K (suc d) (old ++ new) new) ≡ OutOfFuel → ⊥
-            then Full y e″ = let w : _≡_ {A = ℕ} 0 1 = cc in omega arith
-            then (Upto []) y e″ = let w : _≡_ {A = ℕ} 0 1 = cc in omega arith
-            then (Upto (n ∷ ns)) y e″ = ih (n ∷ ns) (ready-next x (n ∷ ns) (y .0) (y .1)) (rw length-append (omega arith)) e″
+    outcome-right h fuel a trace e = rw e at (search-right fuel (ready-start sys K h))
 
     -- fuel for K levels is enough
     pub outcome-ends : 1 ≤ K → (fuel : ℕ) → K ≤ fuel → outcome sys same masks fuel K ≡ OutOfFuel → ⊥
     unfolding outcome
-    outcome-ends h fuel l e = search-ends fuel (ready-start sys K h) (omega arith) e
+    outcome-ends h fuel l e = let z : fuel + 1 ≤ K = (rw e at (search-right fuel (ready-start sys K h))) in omega arith
 
     -- so for every K there is a verdict
     pub verdict-exists : 1 ≤ K → (a : Answer) × (trace : List Mask) × Verdict sys K a trace

@@ -87,8 +87,10 @@ add {S} {P} eq t x = go (decHolds eq at n t)
 addOut : {S : Type 0} {P : S → Type 0} → Discrete S → (o : Tick S) → Some P → Some (λ u. P u ⊎ (o ≡ Next u))
 addOut {S} {P} eq (Next t) x = some-iff {P = λ u. P u ⊎ (t ≡ u)} {Q = λ u. P u ⊎ (_≡_ {A = Tick S} (Next t) (Next u))}
     (λ s q. ⊎-elim (λ p. inl p) (λ e. inr (ap Next e)) q) (λ s q. ⊎-elim (λ p. inl p) (λ e. inr (cc)) q) (add eq t x)
-addOut {S} {P} eq (Missed t) x = some-iff {P = P} {Q = λ u. P u ⊎ (_≡_ {A = Tick S} (Missed t) (Next u))} (λ s p. inl p) (λ s q. ⊎-elim (λ p. p) (λ e. absurd (let z : _≡_ {A = ℕ} 0 1 = cc in omega arith)) q) x
-addOut {S} {P} eq Refused x = some-iff {P = P} {Q = λ u. P u ⊎ (_≡_ {A = Tick S} Refused (Next u))} (λ s p. inl p) (λ s q. ⊎-elim (λ p. p) (λ e. absurd (let z : _≡_ {A = ℕ} 0 1 = cc in omega arith)) q) x
+addOut {S} {P} eq (Missed t) x = some-iff {P = P} {Q = λ u. P u ⊎ (_≡_ {A = Tick S} (Missed t) (Next u))}
+    (λ s p. inl p) (λ s q. ⊎-elim (λ p. p) (λ e. absurd (let z : _≡_ {A = ℕ} 0 1 = cc in omega arith)) q) x
+addOut {S} {P} eq Refused x = some-iff {P = P} {Q = λ u. P u ⊎ (_≡_ {A = Tick S} Refused (Next u))}
+    (λ s p. inl p) (λ s q. ⊎-elim (λ p. p) (λ e. absurd (let z : _≡_ {A = ℕ} 0 1 = cc in omega arith)) q) x
 
 module _ (sys : System) where
   open System sys using (State, Mask, start, step)
@@ -128,14 +130,17 @@ module _ (sys : System) where
       back u y (inl l) = inl (inr (record { place = y .place; below = l; under = y .under }))
       back u y (inr z) = inr (rw z at (y .under))
 
+module _ (sys : System) {same : sys .State → sys .State → Bool} {masks : List (sys .Mask)} (finite : FinitelyBranching sys same masks) where
+  open System sys using (State, Mask, start, step)
+
   -- the states within d + 1 ticks are those within d and their successors
-  step-up : {same : State → State → Bool} {masks : List Mask} → FinitelyBranching sys same masks → {d : ℕ} → Some (Within sys d) → Some (Within sys (suc d))
-  step-up {same} {masks} finite {d} x = some-iff {P = Q} {Q = λ u. Within sys (suc d) u}
+  step-up : {d : ℕ} → Some (Within sys d) → Some (Within sys (suc d))
+  step-up {d} x = some-iff {P = Q} {Q = λ u. Within sys (suc d) u}
       (λ u q. ⊎-elim (λ p. within-more sys (omega arith) p) (λ y. within-next sys (x .numbered .each (y .place) (y .below)) (y .under .mask) (y .under .gives)) q)
-      back (addSlots (tell finite) (x .numbered .at) (x .count) masks x)
+      back (addSlots sys (tell finite) (x .numbered .at) (x .count) masks x)
     where
       Q : State → Type 0
-      Q u = Within sys d u ⊎ From (x .numbered .at) (x .count) masks u
+      Q u = Within sys d u ⊎ From sys (x .numbered .at) (x .count) masks u
 
       P : ℕ → State → Type 0
       P k u = k ≤ suc d → Within sys k u × Q u
@@ -147,13 +152,14 @@ module _ (sys : System) where
       keep k u m t p e h =
           let q = p (omega arith) in
           let held = x .numbered .all u (within-more sys (omega arith) (q .0)) in
-          (within-next sys (q .0) m e, inr (record { place = held .place; below = held .below; under = record { mask = m; member = legal u m t e; gives = rw (held .same) e } }))
+          let under : Under sys (x .numbered .at (held .place)) masks t = record { mask = m; member = legal u m t e; gives = rw (held .same) e } in
+          (within-next sys (q .0) m e, inr (record { place = held .place; below = held .below; under = under }))
 
       back : (u : State) → Within sys (suc d) u → Q u
       back u w = reach-ind sys P keep (λ h. (within-start sys 0, inl (within-start sys d))) (w .masks) u (w .reaches) (w .short) .1
 
-  some-within : {same : State → State → Bool} {masks : List Mask} → FinitelyBranching sys same masks → (d : ℕ) → Some (Within sys d)
-  some-within finite zero = record {
+  some-within : (d : ℕ) → Some (Within sys d)
+  some-within zero = record {
     count = 1;
     numbered = record {
       at = λ i. start;
@@ -162,75 +168,90 @@ module _ (sys : System) where
       all = λ s w. record { place = 0; below = omega arith; same = within-none sys s w };
     };
   }
-  some-within finite (suc d) = step-up finite (some-within finite d)
+  some-within (suc d) = step-up (some-within d)
 
   -- every N(d) exists
-  pub counts-exist : {same : State → State → Bool} {masks : List Mask} → FinitelyBranching sys same masks → (d : ℕ) → (n : ℕ) × Counts sys d n
-  counts-exist finite d = let x = some-within finite d in (x .count, x .numbered)
+  pub counts-exist : (d : ℕ) → (n : ℕ) × Counts sys d n
+  counts-exist d = let x = some-within d in (x .count, x .numbered)
 
-  -- a mask of the list that misses from s, or none
-  miss-under : (s : State) (ms : List Mask) → ((m : Mask) × (t : State) × (step s m ≡ Missed t)) ⊎ ((m : Mask) → List·Memᴰ m ms → (t : State) → step s m ≡ Missed t → ⊥)
+  -- a mask that misses from s
+  record MissFrom (s : State) : Type 0 where
+    mask : Mask
+    next : State
+    missed : step s mask ≡ Missed next
+
+  abbrev CalmUnder : State → List Mask → Type 0
+  CalmUnder s ms = (m : Mask) → List·Memᴰ m ms → (t : State) → step s m ≡ Missed t → ⊥
+
+  -- some mask of the list misses from s, or none does
+  miss-under : (s : State) (ms : List Mask) → MissFrom s ⊎ CalmUnder s ms
   miss-under s [] = inr (λ m h t e. List·Memᴰ·not-nil h)
   miss-under s (m ∷ ms) = go (miss-under s ms) (step s m) refl
     where
-      none : ((t : State) → step s m ≡ Missed t → ⊥) → ((q : Mask) → List·Memᴰ q ms → (t : State) → step s q ≡ Missed t → ⊥) → (q : Mask) → List·Memᴰ q (m ∷ ms) → (t : State) → step s q ≡ Missed t → ⊥
+      none : ((t : State) → step s m ≡ Missed t → ⊥) → CalmUnder s ms → CalmUnder s (m ∷ ms)
       none a b q h t e = ⊎-elim (λ z. a t (rw z at e)) (λ r. b q r t e) (List·Memᴰ·cases-cons h)
 
-      go : ((m : Mask) × (t : State) × (step s m ≡ Missed t)) ⊎ ((q : Mask) → List·Memᴰ q ms → (t : State) → step s q ≡ Missed t → ⊥) → (o : Tick State) → step s m ≡ o
-          → ((m : Mask) × (t : State) × (step s m ≡ Missed t)) ⊎ ((q : Mask) → List·Memᴰ q (m ∷ ms) → (t : State) → step s q ≡ Missed t → ⊥)
+      go : MissFrom s ⊎ CalmUnder s ms → (o : Tick State) → step s m ≡ o → MissFrom s ⊎ CalmUnder s (m ∷ ms)
       go (inl x) o e = inl x
-      go (inr x) (Missed t) e = inl (m, t, e)
+      go (inr x) (Missed t) e = inl (record { mask = m; next = t; missed = e })
       go (inr x) (Next t) e = inr (none (λ u q. let z : _≡_ {A = ℕ} 0 1 = cc in omega arith) x)
       go (inr x) Refused e = inr (none (λ u q. let z : _≡_ {A = ℕ} 0 1 = cc in omega arith) x)
 
-  -- a miss from a state of the first n, or none
-  miss-among : {same : State → State → Bool} {masks : List Mask} → FinitelyBranching sys same masks → (at : ℕ → State) (n : ℕ)
-      → ((i : ℕ) × (i < n) × (m : Mask) × (t : State) × (step (at i) m ≡ Missed t)) ⊎ ((i : ℕ) → i < n → Calm sys (at i))
-  miss-among finite at zero = inr (λ i h m t e. omega arith)
-  miss-among {same} {masks} finite at (suc n) = go (miss-among finite at n) (miss-under (at n) masks)
-    where
-      go : ((i : ℕ) × (i < n) × (m : Mask) × (t : State) × (step (at i) m ≡ Missed t)) ⊎ ((i : ℕ) → i < n → Calm sys (at i))
-          → ((m : Mask) × (t : State) × (step (at n) m ≡ Missed t)) ⊎ ((m : Mask) → List·Memᴰ m masks → (t : State) → step (at n) m ≡ Missed t → ⊥)
-          → ((i : ℕ) × (i < suc n) × (m : Mask) × (t : State) × (step (at i) m ≡ Missed t)) ⊎ ((i : ℕ) → i < suc n → Calm sys (at i))
-      go (inl x) y = inl (x .0, (let h = x .1 in omega arith), x .2, x .3, x .4)
-      go (inr x) (inl y) = inl (n, omega arith, y .0, y .1, y .2)
-      go (inr x) (inr y) = inr (λ i h. ⊎-elim (λ l. x i l) (λ z. rw z (calm-legal sys (finite .others (at n)) y)) (split-last h))
+  -- some mask misses from one of the first n states, or none does from any
+  record MissAmong (at : ℕ → State) (n : ℕ) : Type 0 where
+    place : ℕ
+    below : place < n
+    miss : MissFrom (at place)
 
-  -- no list of at most d ticks misses, or there is a least number of ticks of one that does
-  quiet-or-least : {same : State → State → Bool} {masks : List Mask} → FinitelyBranching sys same masks
-      → (d : ℕ) → ((l : List Mask) → length l ≤ d → Misses sys l → ⊥) ⊎ ((L : ℕ) × Least sys L)
-  quiet-or-least finite zero = inl (start-law sys (λ i. start) refl .quiet)
-  quiet-or-least {same} {masks} finite (suc d) = go (quiet-or-least finite d)
+  miss-among : (at : ℕ → State) (n : ℕ) → MissAmong at n ⊎ ((i : ℕ) → i < n → Calm sys (at i))
+  miss-among at zero = inr (λ i h m t e. omega arith)
+  miss-among at (suc n) = go (miss-among at n) (miss-under (at n) masks)
+    where
+      go : MissAmong at n ⊎ ((i : ℕ) → i < n → Calm sys (at i)) → MissFrom (at n) ⊎ CalmUnder (at n) masks → MissAmong at (suc n) ⊎ ((i : ℕ) → i < suc n → Calm sys (at i))
+      go (inl x) y = inl (record { place = x .place; below = (let h = x .below in omega arith); miss = x .miss })
+      go (inr x) (inl y) = inl (record { place = n; below = omega arith; miss = y })
+      go (inr x) (inr y) = inr (λ i h. ⊎-elim (λ l. x i l) (λ z. rw z (calm-legal sys (at n) (finite .others (at n)) y)) (split-last h))
+
+  -- no list of at most d ticks misses
+  abbrev Quiet : ℕ → Type 0
+  Quiet d = (l : List Mask) → length l ≤ d → Misses sys l → ⊥
+
+  -- the states within d ticks: none misses, or a list of d + 1 ticks is a shortest that does
+  next-quiet : (d : ℕ) → Quiet d → Quiet (suc d) ⊎ Least sys (suc d)
+  next-quiet d quiet = go (miss-among (x .numbered .at) (x .count))
     where
       x : Some (Within sys d)
-      x = some-within finite d
+      x = some-within d
 
-      go : ((l : List Mask) → length l ≤ d → Misses sys l → ⊥) ⊎ ((L : ℕ) × Least sys L) → ((l : List Mask) → length l ≤ suc d → Misses sys l → ⊥) ⊎ ((L : ℕ) × Least sys L)
-      go (inr y) = inr y
-      go (inl quiet) = by (miss-among finite (x .numbered .at) (x .count))
+      go : MissAmong (x .numbered .at) (x .count) ⊎ ((i : ℕ) → i < x .count → Calm sys (x .numbered .at i)) → Quiet (suc d) ⊎ Least sys (suc d)
+      go (inr calm) = inl (hunted-lists sys (λ s w. let h = x .numbered .all s w in rw (h .same) at (calm (h .place) (h .below))))
+      go (inl y) = inr (record { masks = list; long = exactly (decLt (length list) (suc d)); misses = missed; least = λ l w. far l w (decLt d (length l)) })
         where
-          by : ((i : ℕ) × (i < x .count) × (m : Mask) × (t : State) × (step (x .numbered .at i) m ≡ Missed t)) ⊎ ((i : ℕ) → i < x .count → Calm sys (x .numbered .at i))
-              → ((l : List Mask) → length l ≤ suc d → Misses sys l → ⊥) ⊎ ((L : ℕ) × Least sys L)
-          by (inr calm) = inl (hunted-lists sys (λ s w. let h = x .numbered .all s w in rw (h .same) at (calm (h .place) (h .below))))
-          by (inl y) = inr (suc d, record { masks = list; long = exactly (decLt (length list) (suc d)); misses = missed; least = λ l w. far l w (decLt d (length l)) })
-            where
-              within : Within sys d (x .numbered .at (y .0))
-              within = x .numbered .each (y .0) (y .1)
+          within : Within sys d (x .numbered .at (y .place))
+          within = x .numbered .each (y .place) (y .below)
 
-              list : List Mask
-              list = within .masks ++ y .2 ∷ []
+          list : List Mask
+          list = within .masks ++ y .miss .mask ∷ []
 
-              missed : Misses sys list
-              missed = record { tick = suc (length (within .masks)); state = y .3; answer = miss-snoc sys (within .masks) (y .2) (within .reaches) (y .4) }
+          missed : Misses sys list
+          missed = record {
+            tick = suc (length (within .masks));
+            state = y .miss .next;
+            answer = miss-snoc sys (within .masks) (y .miss .mask) (within .reaches) (y .miss .missed);
+          }
 
-              exactly : Dec (length list < suc d) → length list ≡ suc d
-              exactly (yes h) = absurd (quiet list (omega arith) missed)
-              exactly (no nh) = let a = length-append (within .masks) (y .2 ∷ []) in let b = within .short in omega arith
+          exactly : Dec (length list < suc d) → length list ≡ suc d
+          exactly (yes h) = absurd (quiet list (omega arith) missed)
+          exactly (no nh) = let a = length-append (within .masks) (y .miss .mask ∷ []) in let b = within .short in omega arith
 
-              far : (l : List Mask) → Misses sys l → Dec (d < length l) → suc d ≤ length l
-              far l w (yes h) = h
-              far l w (no nh) = absurd (quiet l (omega arith) w)
+          far : (l : List Mask) → Misses sys l → Dec (d < length l) → suc d ≤ length l
+          far l w (yes h) = h
+          far l w (no nh) = absurd (quiet l (omega arith) w)
+
+  quiet-or-least : (d : ℕ) → Quiet d ⊎ ((L : ℕ) × Least sys L)
+  quiet-or-least zero = inl (start-law sys (λ i. start) refl .quiet)
+  quiet-or-least (suc d) = ⊎-elim (λ quiet. ⊎-elim (λ q. inl q) (λ x. inr (suc d, x)) (next-quiet d quiet)) (λ x. inr x) (quiet-or-least d)
 
   -- where some list misses, L exists
-  pub least-exists : {same : State → State → Bool} {masks : List Mask} → FinitelyBranching sys same masks → (l : List Mask) → Misses sys l → (L : ℕ) × Least sys L
-  least-exists finite l w = ⊎-elim (λ quiet. absurd (quiet l (omega arith) w)) (λ y. y) (quiet-or-least finite (length l))
+  pub least-exists : (l : List Mask) → Misses sys l → (L : ℕ) × Least sys L
+  least-exists l w = ⊎-elim (λ quiet. absurd (quiet l (omega arith) w)) (λ y. y) (quiet-or-least (length l))

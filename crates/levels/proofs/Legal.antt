@@ -21,20 +21,20 @@ module _ (sys : System) where
   open System sys using (State, Mask, step)
 
   -- no legal mask misses from s, and any other is refused
-  pub calm-legal : {s : State} {Legal : Mask → Type 0} → ((m : Mask) → Legal m ⊎ (step s m ≡ Refused))
+  pub calm-legal : (s : State) {Legal : Mask → Type 0} → ((m : Mask) → Legal m ⊎ (step s m ≡ Refused))
       → ((m : Mask) → Legal m → (t : State) → step s m ≡ Missed t → ⊥) → Calm sys s
-  calm-legal others none m t e = ⊎-elim (λ l. none m l t e) (λ r. refused-not-missed r e) (others m)
+  calm-legal s others none m t e = ⊎-elim (λ l. none m l t e) (λ r. refused-not-missed r e) (others m)
 
   -- the successors of s under the legal masks are among the first n slots, and any other mask is refused
-  pub covered-legal : {at : ℕ → State} {n : ℕ} {s : State} {Legal : Mask → Type 0} → ((m : Mask) → Legal m ⊎ (step s m ≡ Refused))
+  pub covered-legal : {at : ℕ → State} {n : ℕ} (s : State) {Legal : Mask → Type 0} → ((m : Mask) → Legal m ⊎ (step s m ≡ Refused))
       → ((m : Mask) → Legal m → Covered sys at n s m) → (m : Mask) → Covered sys at n s m
-  covered-legal others covered m t e = ⊎-elim (λ l. covered m l t e) (λ r. absurd (refused-not-next r e)) (others m)
+  covered-legal s others covered m t e = ⊎-elim (λ l. covered m l t e) (λ r. absurd (refused-not-next r e)) (others m)
 
   -- one mask tried for all: full does not miss from s, and it would where any legal mask does
-  pub calm-full : {s : State} {Legal : Mask → Type 0} → ((m : Mask) → Legal m ⊎ (step s m ≡ Refused))
+  pub calm-full : (s : State) {Legal : Mask → Type 0} → ((m : Mask) → Legal m ⊎ (step s m ≡ Refused))
       → (full : Mask) → ((m : Mask) → Legal m → (t : State) → step s m ≡ Missed t → (u : State) × (step s full ≡ Missed u))
       → ((u : State) → step s full ≡ Missed u → ⊥) → Calm sys s
-  calm-full others full grows none = calm-legal others (λ m l t e. let (u, q) = grows m l t e in none u q)
+  calm-full s others full grows none = calm-legal s others (λ m l t e. let (u, q) = grows m l t e in none u q)
 
   -- a row: the masks of slot i, of which none is done at first
   pub row-open : {at : ℕ → State} {hi n d i : ℕ} {Done : Mask → Type 0} → Storing sys at hi n d (Before i) → ((q : Mask) → Done q → ⊥) → Storing sys at hi n d (Row i Done)

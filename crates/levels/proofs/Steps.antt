@@ -19,8 +19,8 @@ module _ (sys : System) where
   open System sys using (State, Mask, start, step)
 
   -- slot 0 is written
-  pub search-start : {at : ℕ → State} {parent : ℕ → ℕ} {mask : ℕ → Mask} {zeroth : Mask} → at 0 ≡ start → parent 0 ≡ 0 → mask 0 ≡ zeroth → Standing sys at parent mask zeroth 0 1 0
-  search-start {at} {parent} {mask} e p m = record {
+  pub search-start : (at : ℕ → State) (parent : ℕ → ℕ) (mask : ℕ → Mask) {zeroth : Mask} → at 0 ≡ start → parent 0 ≡ 0 → mask 0 ≡ zeroth → Standing sys at parent mask zeroth 0 1 0
+  search-start at parent mask e p m = record {
     deep = omega arith;
     explored = start-law sys at e;
     low = λ i h. (let z : i ≡ 0 = omega arith in rw (z, p) (omega arith));
