@@ -1,9 +1,9 @@
 -- Laws of replays: joined lists, two principles of induction along a replay, and the states reached within d ticks.
-use mathlib.Core.Path.{_≡_, refl, sym, _∙_, ap, subst}
+use mathlib.Core.Path.{_≡_, refl, _∙_}
 use mathlib.Core.List.{List, [], _∷_, _++_}
 use Prim.Native.Nat.{ℕ, zero, suc, _+_, _≤_, _<_}
 use native.Mathlib.Omega.{arith}
-use native.Mathlib.Nat.{add-zero, add-suc, suc-add, zero-add}
+use native.Mathlib.Nat.{add-zero, zero-add}
 use lib.ListN.{length, length-append}
 use Rattle.levels.specs.Verdict.{Tick, Replay, System, after, replayFrom, replay, Reaches, Misses, Within, Reached}
 use Rattle.levels.specs.Verdict.Tick.{Next, Missed, Refused}
@@ -120,6 +120,13 @@ module _ (sys : System) where
 
   pub reached : {d : ℕ} {s : State} → Within sys d s → Reached sys s
   reached w = record { masks = w .masks; reaches = w .reaches }
+
+  pub reached-next : {s t : State} → Reached sys s → (m : Mask) → step s m ≡ Next t → Reached sys t
+  reached-next r m e = record { masks = r .masks ++ m ∷ []; reaches = reach-snoc sys (r .masks) m (r .reaches) e }
+
+  -- where no list misses, no mask misses from a state that lists reach
+  pub reached-calm : ((l : List Mask) → Misses sys l → ⊥) → {s : State} → Reached sys s → (m : Mask) (t : State) → step s m ≡ Missed t → ⊥
+  reached-calm none r m t e = none (r .masks ++ m ∷ []) (record { tick = suc (length (r .masks)); state = t; answer = miss-snoc sys (r .masks) m (r .reaches) e })
 
   -- a list of at most d + 1 ticks misses only by a miss from a state reached within d
   pub miss-within : (d : ℕ) (l : List Mask) → length l ≤ suc d → Misses sys l

@@ -27,14 +27,14 @@ module _ (sys : System) where
     unsafe = (λ u. unsafe-if, λ u. tt);
     safe = (λ b. absurd b, λ y. y .none (least .masks) (least .misses));
     noRoom = (λ b. absurd b, λ b. b .0 unsafe-if);
-    report = record { least = least; count = rw pred-suc counts; long = least .long; state = t; missed = replayed };
+    report = record { least = least; count = counts; long = least .long; state = t; missed = replayed };
   }
     where
-      pred-suc : suc d - 1 ≡ d
-      pred-suc = omega arith
-
-      counts : Counts sys d hi
-      counts = record { at = at; distinct = x .distinct; each = x .sound; all = x .full }
+      -- N(L - 1)
+      counts : Counts sys (suc d - 1) hi
+      counts =
+          let z : suc d - 1 ≡ d = omega arith in
+          rw z (record { at = at; distinct = x .distinct; each = x .sound; all = x .full })
 
       replayed : replay sys (path ++ m ∷ []) ≡ MissedAt (suc d) t
       replayed = miss-snoc sys path m reaches missed ∙ (rw long)
@@ -52,7 +52,7 @@ module _ (sys : System) where
       }
 
       unsafe-if : UnsafeIf sys K
-      unsafe-if = record { L = suc d; least = least; room = record { count = hi; counts = rw pred-suc counts; most = room } }
+      unsafe-if = record { L = suc d; least = least; room = record { count = hi; counts = counts; most = room } }
 
   -- every pair is tried and no slot was filled: the search is at an end
   module _ {at : ℕ → State} {hi d : ℕ} {T : ℕ → Mask → Type 0} (x : Storing sys at hi hi d T) (all : (i : ℕ) (m : Mask) → i < hi → T i m) where

@@ -1,4 +1,5 @@
--- What the written slots hold (document 01, "The search"), whatever their bytes: at i, parent i and mask i are those of slot i.
+-- What the written slots must hold (document 01, "The search"), whatever their bytes: at i, parent i and mask i are those of slot i.
+-- Beside Verdict.antt this is the other file to believe.
 use mathlib.Core.Path.{_≡_}
 use mathlib.Core.List.{List}
 use Prim.Native.Nat.{ℕ, _-_, _<_}

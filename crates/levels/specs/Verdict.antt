@@ -1,5 +1,5 @@
 -- What a search must answer (demand 3; document 01, "Replay" and "The search"), of any system of states and ticks.
--- This is the file to believe: the claim is `Verdict`, at the end. Nothing here knows what a state or a mask is.
+-- This is the file to believe, and of the slots Slots.antt: the claim is `Verdict`, at the end. Nothing here knows what a state or a mask is.
 use mathlib.Core.Path.{_≡_}
 use mathlib.Core.Logic.{_↔_}
 use mathlib.Core.List.{List, [], _∷_}
