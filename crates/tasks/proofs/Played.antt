@@ -57,7 +57,7 @@ module _ (t : Table) where
       next-tick (k + 1) (k + length (mask ∷ masks)) s s′ (played t s′ (k + 1) masks) (ticked t s mask .answer) (omega arith)
       (omega (arith, played-tick s′ (k + 1) masks))
 
-  -- PUBLIC LAW: the tick that a replay names is at most the list's length
+  -- LAW: the tick that a replay names is at most the list's length
   pub replayed-tick : (l : List ℕ) → replayTick (replayed t l .answer) ≤ length l
   unfolding replayed replayTick
   replayed-tick l =
