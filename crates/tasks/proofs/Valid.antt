@@ -7,7 +7,7 @@ use lib.Dec.{ltb}
 use lib.ListN.{getD}
 use borrow.Author.Tests.{ltb-false}
 use Rattle.tasks.specs.Lists.{pick, any}
-use Rattle.tasks.specs.Table.{outside, faultAt, tableFault}
+use Rattle.tasks.specs.Table.{outside, breaks, faultAt, tableFault}
 use Rattle.tasks.specs.declared.table.Table.{Table}
 use Rattle.tasks.proofs.Bools.{by-bool, nor-left, nor-right}
 use Rattle.tasks.proofs.Counts.{any-false}
@@ -33,7 +33,7 @@ module _ (t : Table) where
       pick-zero (any 8 (faultAt t)) 7 0 (omega arith) (e₃ .1) .0
 
   ordered-at : (i : ℕ) → faultAt t i ≡ false → Ordered t i
-  unfolding faultAt
+  unfolding faultAt breaks
   ordered-at i e =
       let C = getD (t .work) i 0 in
       let D = getD (t .deadline) i 0 in
