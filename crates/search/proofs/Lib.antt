@@ -1,4 +1,8 @@
 -- Laws that several proofs cite.
+pub mod SlotLaws
+pub mod ClearLaws
+pub mod KeyLaws
+pub mod IndexLaws
 pub mod MaskTest
 pub mod MaskLaws
 pub mod SystemLaws
