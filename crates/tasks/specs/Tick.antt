@@ -105,9 +105,13 @@ tickNumber Next = 0
 tickNumber Missed = 0
 tickNumber (Refused r) = r
 
+-- the answer with the state beside it
+abbrev pub answered : TickAnswer → State → Ticked
+answered a s = record { answer = a; state = s }
+
 -- a refusal with the state given, or Missed or Next with the state after step 4
 unfoldable pub ticked : Table → State → ℕ → Ticked
 ticked t s mask =
-    pick (ltb 0 (refusal t s mask)) (record { answer = Refused (refusal t s mask); state = s })
-    (pick (missed t (after t s mask)) (record { answer = Missed; state = after t s mask })
-    (record { answer = Next; state = after t s mask }))
+    pick (ltb 0 (refusal t s mask)) (answered (Refused (refusal t s mask)) s)
+    (pick (missed t (after t s mask)) (answered Missed (after t s mask))
+    (answered Next (after t s mask)))
