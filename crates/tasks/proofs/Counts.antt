@@ -55,6 +55,12 @@ unfolding count
 count-same p q zero f = refl
 count-same p q (suc n) f = rw (count-same p q n (λ k h. f k (omega arith)), f n (omega arith))
 
+-- where no number passes, the count is 0
+pub count-zero : (p : ℕ → Bool) (n : ℕ) → ((k : ℕ) → k < n → p k ≡ false) → count n p ≡ 0
+unfolding count
+count-zero p zero f = refl
+count-zero p (suc n) f = rw (count-zero p n (λ k h. f k (omega arith)), f n (omega arith))
+
 -- where no number passes, k does not
 pub any-false : (p : ℕ → Bool) (n k : ℕ) → any n p ≡ false → k < n → p k ≡ false
 unfolding any
