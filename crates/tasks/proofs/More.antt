@@ -1,15 +1,15 @@
 -- More releases never keep a tick from missing. Assumes nothing.
-use Prim.Native.Nat.{ℕ, zero, suc, _+_, _-_, _≤_, _<_}
-use mathlib.Core.Path.{_≡_, refl, sym, ap, ap₂, _∙_}
-use mathlib.Core.Bool.{Bool, true, false, _&&_, _||_}
+use Prim.Native.Nat.{ℕ, _<_}
+use mathlib.Core.Path.{_≡_, sym, _∙_}
+use mathlib.Core.Bool.{true, false, _&&_, _||_}
 use mathlib.Core.Logic.{_⊎_, inl, inr, ⊎-elim}
 use native.Mathlib.Omega.{arith}
 use lib.Dec.{eqb, ltb}
 use lib.ListN.{getD}
 use borrow.Author.Tests.{ltb-true, ltb-false, lt-ltb, le-ltb, eqb-true, eq-eqb}
-use Rattle.tasks.specs.Lists.{pick, count, any}
+use Rattle.tasks.specs.Lists.{count}
 use Rattle.tasks.specs.Table.{tableFault}
-use Rattle.tasks.specs.State.{timeLeft, ready, started, notPreempted, keeps, late, improper}
+use Rattle.tasks.specs.State.{ready, started, keeps, late, improper}
 use Rattle.tasks.specs.Tick.{bit, illegal, released, key, before, ahead, runs, after, missed}
 use Rattle.tasks.specs.declared.state.State.{State}
 use Rattle.tasks.specs.declared.table.Table.{Table}
@@ -19,7 +19,7 @@ use Rattle.tasks.proofs.Valid.{ordered}
 use Rattle.tasks.proofs.Legal.{legal-bit, bits-legal}
 use Rattle.tasks.proofs.After.{work-on, work-off, gap-on, gap-off, work-waited, gap-after}
 use Rattle.tasks.proofs.Proper.{proper-task}
-use Rattle.tasks.proofs.Late.{late-yes, is-late, not-late, late-waited}
+use Rattle.tasks.proofs.Late.{is-late, not-late, late-waited}
 
 -- ---- two states that agree on a task
 

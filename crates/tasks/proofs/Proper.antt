@@ -1,13 +1,13 @@
 -- Proper states: what they say of each task, how many tasks run from one, and that a tick leaves one. Assumes nothing.
 use Prim.Native.Nat.{ℕ, _≤_, _<_}
-use mathlib.Core.Path.{_≡_, refl, sym, ap, _∙_}
-use mathlib.Core.Bool.{Bool, true, false, _&&_, _||_}
+use mathlib.Core.Path.{_≡_}
+use mathlib.Core.Bool.{true, false, _&&_, _||_}
 use native.Mathlib.Omega.{arith}
 use lib.Dec.{ltb, leb}
 use lib.ListN.{getD}
 use borrow.Author.Tests.{ltb-true, ltb-false, le-ltb, leb-true, le-leb}
 use Rattle.tasks.specs.Lists.{count, any}
-use Rattle.tasks.specs.State.{start, notPreempted, ready, started, keeps, late, improperAt, improper}
+use Rattle.tasks.specs.State.{start, notPreempted, started, keeps, late, improperAt, improper}
 use Rattle.tasks.specs.Tick.{bit, illegal, released, ahead, runs, missed, after}
 use Rattle.tasks.specs.declared.state.State.{State}
 use Rattle.tasks.specs.declared.table.Table.{Table}

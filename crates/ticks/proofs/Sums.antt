@@ -1,6 +1,6 @@
 -- One more tick of the sum, and the room that its bytes have. Assumes nothing.
-use Prim.Native.Nat.{ℕ, zero, suc, _+_, _*_, _/_, _%_, _^_, _≤_, _<_}
-use mathlib.Core.Path.{_≡_, refl, sym, ap, _∙_}
+use Prim.Native.Nat.{ℕ, _+_, _*_, _/_, _%_, _^_, _≤_, _<_}
+use mathlib.Core.Path.{_≡_, refl, _∙_}
 use mathlib.Core.List.{List}
 use mathlib.Core.Bool.{Bool, true, false}
 use native.Mathlib.Omega.{arith}
@@ -12,7 +12,6 @@ use borrow.Author.Tests.{ltb-true, ltb-false, le-ltb}
 use Rattle.tasks.specs.Lists.{pick}
 use Rattle.tasks.specs.Tick.{after}
 use Rattle.tasks.specs.declared.table.Table.{Table}
-use Rattle.tasks.specs.declared.state.State.{State}
 use Rattle.tasks.proofs.Bools.{by-bool}
 use Rattle.ticks.specs.Ticks.{tableOf, stateAt, figure, sum, pairs, ticksSum}
 

@@ -6,8 +6,6 @@ use native.Mathlib.Omega.{arith}
 use borrow.Author.Needs.{needs}
 use Rattle.ticks.proofs.bytes_from.Statement.{statement}
 use Rattle.ticks.proofs.bytes_from.Tie as tie
-use Rattle.ticks.proofs.bytes_from.Reads as reads
-use Rattle.ticks.proofs.bytes_from.Lts as lts
 
 abbrev Inv-loop : tie.InvT-loop
 Inv-loop b at a₀ i₀ a i = (i ≤ 8) × Filled 0 (λ k. getD b (at + k) 0) a i

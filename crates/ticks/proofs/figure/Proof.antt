@@ -1,14 +1,8 @@
 use Rattle.ticks.specs.Ticks.{figure}
 use Rattle.ticks.proofs.Sums.{bool-number}
-use native.Mathlib.Omega.{arith}
 use borrow.Author.Needs.{needs}
 use Rattle.ticks.proofs.figure.Statement.{statement}
 use Rattle.ticks.proofs.figure.Tie as tie
-use Rattle.ticks.proofs.figure.Reads as reads
-use Rattle.ticks.proofs.figure.Lts as lts
-use Rattle.std.proofs.num.wrapping_add_u64.Reads as wrapping-add-u64-reads
-use Rattle.tasks.proofs.state.State.missed.Reads as missed-reads
-use Rattle.ticks.proofs.word.Reads as word-reads
 
 word-requires : tie.Need-word-requires
 word-requires c κs = search needs

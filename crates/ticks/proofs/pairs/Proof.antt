@@ -1,11 +1,7 @@
 use borrow.Author.Tests.{lt-ltb, le-ltb}
 use Rattle.ticks.specs.Ticks.{pairs}
-use native.Mathlib.Omega.{arith}
-use borrow.Author.Needs.{needs}
 use Rattle.ticks.proofs.pairs.Statement.{statement}
 use Rattle.ticks.proofs.pairs.Tie as tie
-use Rattle.ticks.proofs.pairs.Reads as reads
-use Rattle.ticks.proofs.pairs.Lts as lts
 
 returns : tie.Need-returns
 unfolding pairs

@@ -1,11 +1,7 @@
 use Rattle.ticks.specs.Ticks.{stateAt}
-use native.Mathlib.Omega.{arith}
 use borrow.Author.Needs.{needs}
 use Rattle.ticks.proofs.state_at.Statement.{statement}
 use Rattle.ticks.proofs.state_at.Tie as tie
-use Rattle.ticks.proofs.state_at.Reads as reads
-use Rattle.ticks.proofs.state_at.Lts as lts
-use Rattle.ticks.proofs.bytes_from.Reads as bytes-from-reads
 
 mul-at : tie.Need-mul-at
 mul-at c = search needs

@@ -1,11 +1,7 @@
 use Rattle.ticks.specs.Ticks.{tableOf}
-use native.Mathlib.Omega.{arith}
 use borrow.Author.Needs.{needs}
 use Rattle.ticks.proofs.table_of.Statement.{statement}
 use Rattle.ticks.proofs.table_of.Tie as tie
-use Rattle.ticks.proofs.table_of.Reads as reads
-use Rattle.ticks.proofs.table_of.Lts as lts
-use Rattle.ticks.proofs.bytes_from.Reads as bytes-from-reads
 
 shared-slice-read-t3 : tie.Need-shared-slice-read-t3
 shared-slice-read-t3 c = search needs

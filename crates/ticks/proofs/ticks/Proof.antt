@@ -7,14 +7,6 @@ use native.Mathlib.Omega.{arith}
 use borrow.Author.Needs.{needs}
 use Rattle.ticks.proofs.ticks.Statement.{statement}
 use Rattle.ticks.proofs.ticks.Tie as tie
-use Rattle.ticks.proofs.ticks.Reads as reads
-use Rattle.ticks.proofs.ticks.Lts as lts
-use Rattle.std.proofs.num.wrapping_add_u64.Reads as wrapping-add-u64-reads
-use Rattle.tasks.proofs.state.State.advance.Reads as advance-reads
-use Rattle.ticks.proofs.figure.Reads as figure-reads
-use Rattle.ticks.proofs.pairs.Reads as pairs-reads
-use Rattle.ticks.proofs.state_at.Reads as state-at-reads
-use Rattle.ticks.proofs.table_of.Reads as table-of-reads
 
 abbrev Inv-loop : tie.InvT-loop
 Inv-loop table states masks t n total₀ k₀ total k = (k ≤ n) × (n ≡ pairs states masks) × (total ≡ sum t states masks k)

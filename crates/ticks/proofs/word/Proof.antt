@@ -1,11 +1,7 @@
 use Rattle.ticks.specs.Ticks.{word}
-use native.Mathlib.Omega.{arith}
 use borrow.Author.Needs.{needs}
 use Rattle.ticks.proofs.word.Statement.{statement}
 use Rattle.ticks.proofs.word.Tie as tie
-use Rattle.ticks.proofs.word.Reads as reads
-use Rattle.ticks.proofs.word.Lts as lts
-use Rattle.ticks.proofs.wide.Reads as wide-reads
 
 array-read-wide : tie.Need-array-read-wide
 array-read-wide c = search needs
