@@ -1,4 +1,4 @@
-// The lower layer of the verdict engine: the task table and its faults, the state, one tick, and the replay of a list.
+// The lower layer of the verdict engine: the task table and its faults.
 mod places;
 mod play;
 mod state;
