@@ -1,19 +1,18 @@
 -- The answer of a tick, case by case. Assumes nothing.
 use Prim.Native.Nat.{ℕ, _≤_, _<_}
 use mathlib.Core.Path.{_≡_, refl, sym, ap, _∙_}
-use mathlib.Core.Bool.{Bool, true, false}
+use mathlib.Core.Bool.{true, false}
 use native.Mathlib.Omega.{arith}
 use lib.Dec.{ltb}
 use borrow.Author.Tests.{ltb-true, ltb-false, lt-ltb, le-ltb}
 use Rattle.tasks.specs.Lists.{pick}
 use Rattle.tasks.specs.Table.{tableFault}
 use Rattle.tasks.specs.State.{improper}
-use Rattle.tasks.specs.Tick.{illegal, after, missed, refusal, tickNumber, ticked}
+use Rattle.tasks.specs.Tick.{illegal, after, missed, refusal, tickNumber, answered, ticked}
 use Rattle.tasks.specs.declared.state.State.{State}
 use Rattle.tasks.specs.declared.table.Table.{Table}
 use Rattle.tasks.specs.declared.tick.TickAnswer.{TickAnswer}
 use Rattle.tasks.specs.declared.tick.TickAnswer.the-variants.{Next, Missed, Refused}
-use Rattle.tasks.specs.declared.tick.Ticked.{Ticked}
 use Rattle.tasks.proofs.Bools.{by-bool}
 use Rattle.tasks.proofs.Picks.{pick-yes, pick-no}
 use Rattle.tasks.proofs.Valid.{pick-zero}
@@ -21,17 +20,17 @@ use Rattle.tasks.proofs.Proper.{proper-after}
 
 module _ (t : Table) (s : State) (mask : ℕ) where
   -- a tick is refused with the state given
-  pub ticked-refused : 0 < refusal t s mask → record { answer = Refused (refusal t s mask); state = s } ≡ ticked t s mask
+  pub ticked-refused : 0 < refusal t s mask → answered (Refused (refusal t s mask)) s ≡ ticked t s mask
   unfolding ticked
   ticked-refused h = pick-yes _ (lt-ltb _ _ h)
 
   pub ticked-missed :
-      refusal t s mask ≤ 0 → missed t (after t s mask) ≡ true → record { answer = Missed; state = after t s mask } ≡ ticked t s mask
+      refusal t s mask ≤ 0 → missed t (after t s mask) ≡ true → answered Missed (after t s mask) ≡ ticked t s mask
   unfolding ticked
   ticked-missed h e = pick-no _ (le-ltb _ _ h) (pick-yes _ e)
 
   pub ticked-next :
-      refusal t s mask ≤ 0 → missed t (after t s mask) ≡ false → record { answer = Next; state = after t s mask } ≡ ticked t s mask
+      refusal t s mask ≤ 0 → missed t (after t s mask) ≡ false → answered Next (after t s mask) ≡ ticked t s mask
   unfolding ticked
   ticked-next h e = pick-no _ (le-ltb _ _ h) (pick-no _ e refl)
 
@@ -68,7 +67,7 @@ module _ (t : Table) (s : State) (mask : ℕ) where
   -- LAW: with a valid table, a proper state and a legal mask, a tick is the state after step 4, missed or not
   pub ticked-legal :
       tableFault t ≡ 0 → improper t s ≡ false → illegal t s mask ≡ false
-      → ticked t s mask ≡ record { answer = pick (missed t (after t s mask)) Missed Next; state = after t s mask }
+      → ticked t s mask ≡ answered (pick (missed t (after t s mask)) Missed Next) (after t s mask)
   ticked-legal valid proper legal =
       let none : refusal t s mask ≤ 0 = omega (arith, refusal-none valid proper legal) in
       by-bool (missed t (after t s mask))
@@ -81,10 +80,10 @@ module _ (t : Table) (s : State) (mask : ℕ) where
 
   -- LAW: with a valid table and a proper state, a mask that is not legal is refused with 11 and the state given
   pub ticked-illegal :
-      tableFault t ≡ 0 → improper t s ≡ false → illegal t s mask ≡ true → ticked t s mask ≡ record { answer = Refused 11; state = s }
+      tableFault t ≡ 0 → improper t s ≡ false → illegal t s mask ≡ true → ticked t s mask ≡ answered (Refused 11) s
   ticked-illegal valid proper bad =
       let eleven : refusal t s mask ≡ 11 = refused-mask valid proper bad in
-      sym (ticked-refused (omega arith)) ∙ ap (λ r. record { answer = Refused r; state = s }) eleven
+      sym (ticked-refused (omega arith)) ∙ ap (λ r. answered (Refused r) s) eleven
 
   -- LAW: a tick that neither refuses nor misses leaves a proper state
   pub ticked-proper : ticked t s mask .answer ≡ Next → improper t (ticked t s mask .state) ≡ false

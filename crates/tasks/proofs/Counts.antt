@@ -1,7 +1,7 @@
 -- Counts and searches over the numbers below n: how two of them compare. Assumes nothing.
 use Prim.Native.Nat.{ℕ, zero, suc, _+_, _≤_, _<_}
-use mathlib.Core.Path.{_≡_, refl, sym, ap, _∙_}
-use mathlib.Core.Bool.{Bool, true, false, _||_}
+use mathlib.Core.Path.{_≡_, refl}
+use mathlib.Core.Bool.{Bool, true, false}
 use native.Mathlib.Omega.{arith}
 use native.Mathlib.Decide.{ℕ-discrete}
 use Rattle.tasks.specs.Lists.{pick, count, any}
@@ -33,27 +33,17 @@ count-but-one p q x (suc n) f =
           (arith, count-but-one p q x n (λ k h. f k (omega arith)), pick-le (p n) (q n) (f n (omega arith) d))
     ]
 
--- q holds wherever p does, and at x besides
-pub count-less :
-    (p q : ℕ → Bool) (x n : ℕ) → x < n → p x ≡ false → q x ≡ true → ((k : ℕ) → k < n → p k ≡ true → q k ≡ true) → count n p < count n q
-unfolding count
-count-less p q x zero h e g f = absurd (omega arith)
-count-less p q x (suc n) h e g f =
-    elim (ℕ-discrete n x) [
-      | yes y ↦
-          let pe : p n ≡ false = rw y e in
-          let qe : q n ≡ true = rw y g in
-          rw (pe, qe) (omega (arith, count-mono p q n (λ k l. f k (omega arith))))
-      | no d ↦
-          omega
-          (arith, count-less p q x n (omega arith) e g (λ k l. f k (omega arith)), pick-le (p n) (q n) (f n (omega arith)))
-    ]
-
 -- p and q agree
 pub count-same : (p q : ℕ → Bool) (n : ℕ) → ((k : ℕ) → k < n → p k ≡ q k) → count n p ≡ count n q
 unfolding count
 count-same p q zero f = refl
 count-same p q (suc n) f = rw (count-same p q n (λ k h. f k (omega arith)), f n (omega arith))
+
+-- where no number passes, the count is 0
+pub count-zero : (p : ℕ → Bool) (n : ℕ) → ((k : ℕ) → k < n → p k ≡ false) → count n p ≡ 0
+unfolding count
+count-zero p zero f = refl
+count-zero p (suc n) f = rw (count-zero p n (λ k h. f k (omega arith)), f n (omega arith))
 
 -- where no number passes, k does not
 pub any-false : (p : ℕ → Bool) (n k : ℕ) → any n p ≡ false → k < n → p k ≡ false

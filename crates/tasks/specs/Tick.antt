@@ -1,7 +1,7 @@
 -- One tick (document 01, "One tick"), step by step, and its refusals ("Refusals by cause").
 use Prim.Native.Nat.{ℕ, _-_, _/_, _%_, _^_}
 use mathlib.Core.List.{List}
-use mathlib.Core.Bool.{Bool, true, false, not, _&&_, _||_}
+use mathlib.Core.Bool.{Bool, false, not, _&&_, _||_}
 use lib.ListN.{getD}
 use lib.Dec.{eqb, ltb, leb}
 use lib.IntN.{ℤ, pos}
@@ -46,11 +46,12 @@ released t s mask =
 abbrev pub lex : ℤ → ℤ → Bool → Bool
 lex a b rest = ltZ a b || (not (ltZ b a) && rest)
 
--- by what the policy orders the jobs: fixed priority by nothing but the task's number, earliest deadline by the time left
+-- by what the policy orders the jobs: fixed priority by nothing but the task's number, earliest deadline by the time left;
+-- a further policy is one more test here
 unfoldable pub key : Table → State → ℕ → ℤ
 key t s i = pick (ltb (t .policy) 2) (pos 0) (timeLeftAt t s i)
 
--- the job of task j goes before that of task i: by key, then by task number
+-- the job of task j goes before that of task i: by key, then by task number; a further tie-break is one more `lex` here
 unfoldable pub before : Table → State → ℕ → ℕ → Bool
 before t s j i = lex (key t s j) (key t s i) (ltb j i)
 
@@ -105,9 +106,13 @@ tickNumber Next = 0
 tickNumber Missed = 0
 tickNumber (Refused r) = r
 
+-- the answer with the state beside it
+abbrev pub answered : TickAnswer → State → Ticked
+answered a s = record { answer = a; state = s }
+
 -- a refusal with the state given, or Missed or Next with the state after step 4
 unfoldable pub ticked : Table → State → ℕ → Ticked
 ticked t s mask =
-    pick (ltb 0 (refusal t s mask)) (record { answer = Refused (refusal t s mask); state = s })
-    (pick (missed t (after t s mask)) (record { answer = Missed; state = after t s mask })
-    (record { answer = Next; state = after t s mask }))
+    pick (ltb 0 (refusal t s mask)) (answered (Refused (refusal t s mask)) s)
+    (pick (missed t (after t s mask)) (answered Missed (after t s mask))
+    (answered Next (after t s mask)))

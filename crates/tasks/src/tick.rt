@@ -1,6 +1,6 @@
 // One tick: its refusals, and the state after it.
 ghost use mathlib.Core.Path.{_≡_};
-ghost use Rattle.tasks.specs.Tick.{after, refusal, tickNumber, ticked};
+ghost use Rattle.tasks.specs.Tick.{after, refusal, tickNumber, answered, ticked};
 use crate::state::State;
 use crate::table::Table;
 
@@ -14,6 +14,13 @@ pub enum TickAnswer {
 pub struct Ticked {
     pub answer: TickAnswer,
     pub state: State,
+}
+
+// The answer with the state beside it.
+fn answered(answer: TickAnswer, state: State) -> Ticked
+    ensures { λ r. ⌜ r ≡ answered answer state ⌝ }
+{
+    Ticked { answer, state }
 }
 
 impl State {
@@ -49,21 +56,12 @@ impl State {
     {
         let why = self.refusal(t, mask);
         if 0 < why {
-            return Ticked {
-                answer: TickAnswer::Refused(why),
-                state: self,
-            };
+            return answered(TickAnswer::Refused(why), self);
         }
         let next = self.advance(t, mask);
         if next.missed(t) {
-            return Ticked {
-                answer: TickAnswer::Missed,
-                state: next,
-            };
+            return answered(TickAnswer::Missed, next);
         }
-        Ticked {
-            answer: TickAnswer::Next,
-            state: next,
-        }
+        answered(TickAnswer::Next, next)
     }
 }
