@@ -1,3 +1,4 @@
+-- The invariant: the bytes of the first k tasks are stored.
 use Prim.Native.Nat.{_-_, _≤_}
 use mathlib.Core.Path.{_≡_, refl}
 use lib.ListN.{length, getD, length-set}
@@ -49,7 +50,7 @@ loop-less : tie.Need-loop-less Inv-loop μ-loop
 loop-less c = search needs
 
 loop-again : tie.Need-loop-again Inv-loop μ-loop
-loop-again c = (omega arith, put-turn _ _ _ _ _ (c .before .before .before .loop .inv .1), simp length-set (omega arith))
+loop-again c = (omega arith, put-turn _ _ _ _ _ (omega arith) (c .before .before .before .loop .inv .1), simp length-set (omega arith))
 
 cast-part : tie.Need-cast-part Inv-loop μ-loop
 cast-part c = search needs
