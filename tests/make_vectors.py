@@ -401,6 +401,8 @@ def tick_vectors() -> Iterator[Vector]:
         yield tick_vector(f"{name}: equal deadlines, without the first", tie, START, 6)
         aged = table_of(policy, 1, [(3, 9, 9), (3, 7, 12)])
         yield tick_vector(f"{name}: d equal after waiting", aged, state_of((3, 7), (0, 0)), 2)
+        younger = table_of(policy, 1, [(3, 7, 12), (3, 9, 9)])
+        yield tick_vector(f"{name}: d equal, the first released later", younger, state_of((0, 0), (3, 7)), 1)
         yield tick_vector(f"{name}: d one more than the other's", aged, state_of((3, 8), (0, 0)), 2)
         yield tick_vector(f"{name}: d one less than the other's", aged, state_of((3, 6), (3, 12)), 0)
         # a finished job whose d is negative takes no part
@@ -474,23 +476,23 @@ def replay_vectors() -> Iterator[Vector]:
     for policy, name in enumerate(NAMES):
         two = table_of(policy, 1, TWO)
         yield replay_vector(f"{name}: the empty list", two, b"")
-        yield replay_vector(f"{name}: 300 empty masks", two, bytes(300))
-        yield replay_vector(f"{name}: both, every second tick", two, bytes([3, 0] * 20))
-        yield replay_vector(f"{name}: one at a time", two, bytes([1, 2] * 20))
+        yield replay_vector(f"{name}: both, every second tick", two, bytes([3, 0] * 5))
+        yield replay_vector(f"{name}: one at a time", two, bytes([1, 2] * 5))
         yield replay_vector(f"{name}: C = D, masks 3, 0", table_of(policy, 1, [(2, 2, 2), (1, 2, 2)]), bytes([3, 0]))
         yield replay_vector(f"{name}: after the miss nothing is read", table_of(policy, 1, [(2, 2, 2), (1, 2, 2)]), bytes([3, 0, 255, 255]))
         yield replay_vector(f"{name}: masks 2, 1, an urgent job", table_of(policy, 1, [(1, 1, 2), (2, 4, 4)]), bytes([2, 1]))
         yield replay_vector(f"{name}: a miss at the first tick", table_of(policy, 1, [(1, 1, 2), (1, 1, 2)]), bytes([3]))
-        yield replay_vector(f"{name}: C = D = P = 1, released at every tick", table_of(policy, 1, [(1, 1, 1)]), bytes([1] * 50))
+        yield replay_vector(f"{name}: C = D = P = 1, released at every tick", table_of(policy, 1, [(1, 1, 1)]), bytes([1] * 9))
         yield replay_vector(f"{name}: a gap is a least gap", table_of(policy, 1, [(1, 2, 3), (2, 4, 5)]), bytes([3, 0, 0, 0, 1, 2, 0, 0, 1]))
         yield replay_vector(f"{name}: a mask too early, at tick 4", two, bytes([1, 0, 3, 1]))
         yield replay_vector(f"{name}: a bit for no task, at tick 1", two, bytes([4]))
         yield replay_vector(f"{name}: released again too early, at tick 2", table_of(policy, 1, [(1, 1, 2)]), bytes([1, 1]))
-        yield replay_vector(f"{name}: a miss at tick 301", table_of(policy, 1, [(2, 3, 3), (2, 3, 3)]), bytes([0] * 299 + [3]) + bytes(10))
-        yield replay_vector(f"{name}: refused at tick 1000", table_of(policy, 1, [(2, 3, 3), (2, 3, 3)]), bytes(999) + b"\x04")
         yield replay_vector(f"{name}: eight tasks on eight cores", table_of(policy, 8, [(i, i, i + 1) for i in range(1, 9)]), bytes([255, 0, 1, 2, 5, 8, 16, 32]))
         yield replay_vector(f"{name}: D below P, waiting after the finish", table_of(policy, 1, [(1, 2, 10), (1, 3, 10)]), bytes([3] + [0] * 9 + [3]))
         yield replay_vector(f"{name}: m above n", table_of(policy, 5, [(3, 3, 3), (2, 2, 2)]), bytes([3, 0, 2, 1, 2]))
+    # a tick number that one byte does not hold
+    full = table_of(3, 1, [(2, 3, 3), (2, 3, 3)])
+    yield replay_vector("a miss at tick 258", full, bytes(256) + b"\x03" + bytes(10))
     table = table_of(0, 1, TWO)
     for masks, name in ((b"", "the empty list"), (b"\x04", "a bit for no task")):
         yield replay_vector(f"policy 4, {name}", changed(table, policy=4), masks)
@@ -498,9 +500,9 @@ def replay_vectors() -> Iterator[Vector]:
         yield replay_vector(f"n 0, {name}", changed(table, n=0), masks)
         yield replay_vector(f"an entry after the nth, {name}", changed(table, C=entry(table.C, 7, 1)), masks)
     dice = Dice(2)
-    for number in range(40):
+    for number in range(18):
         table = dice.table((4, 12, 200)[number % 3])
-        yield replay_vector(f"drawn {number + 1}", table, drawn_masks(dice, table, 60))
+        yield replay_vector(f"drawn {number + 1}", table, drawn_masks(dice, table, 14))
 
 
 # ----------------------------------------------------------------------------------------------------

@@ -34,22 +34,26 @@ fn read_front(kind: u8, length: usize, space: &mut [u8]) -> bool {
     read_body(kind, &mut space[..length])
 }
 
-// Reads one record and prints its line. Answers false at the end of the input.
-fn record() -> bool {
+// Reads one record by way of a space and prints its line. Answers false at the end of the input.
+fn record(space: &mut [u8]) -> bool {
     let mut head = [0u8; 3];
     let got = io::read_full(libc::STDIN_FILENO, &mut head);
     if got < 3 {
         return false;
     }
     let length = text::wide(head[1]) + 256 * text::wide(head[2]);
-    let mut space = [0u8; 4096];
-    read_front(head[0], length, &mut space)
+    read_front(head[0], length, space)
 }
 
 // A proved loop has to end, so this one counts its turns down from a number that no run uses up.
-fn main() {
+fn records(space: &mut [u8]) {
     let mut turns = u64::MAX;
-    while turns > 0 && record() {
+    while turns > 0 && record(space) {
         turns -= 1;
     }
+}
+
+fn main() {
+    let mut space = [0u8; 4096];
+    records(&mut space);
 }
