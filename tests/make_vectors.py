@@ -27,10 +27,10 @@ from typing import Iterator, NamedTuple
 sys.dont_write_bytecode = True
 
 import reference as ref
-from reference import START, State, Table, number_bytes, refusal, sheet_bytes, table_of
+from reference import START, State, Table, number_bytes, sheet_bytes, table_of
 
 # The kinds whose vectors are made.
-KINDS = "nst"
+KINDS = "nstwr"
 
 FOLDER = Path(__file__).resolve().parent.parent / "crates" / "vectors"
 LONGEST_BODY = 4096  # what the program has room for
@@ -43,7 +43,7 @@ class Vector(NamedTuple):
     line: str
 
 
-# ----------------------------------------------------------------------------------------------------
+# ----------------------------------------------------------------------
 # A vector of each kind: its body, and the line that the reference gives for it
 
 
@@ -122,7 +122,7 @@ def replay_vector(label: str, table: Table, masks: bytes) -> Vector:
     return Vector("p", label, table_bytes(table) + masks, line)
 
 
-# ----------------------------------------------------------------------------------------------------
+# ----------------------------------------------------------------------
 # Sheet numbers, sheets, tables, the writer
 
 PAPER = bytes.fromhex("03000102010102020404")  # the sheet of "Benchmark tables"
@@ -253,10 +253,12 @@ def sheet_vectors() -> Iterator[Vector]:
 
 
 def changed(table: Table, **parts) -> Table:
+    """A table with some parts others."""
     return table._replace(**parts)
 
 
 def entry(values: tuple[int, ...], place: int, value: int) -> tuple[int, ...]:
+    """Eight values with one of them another."""
     return (*values[:place], value, *values[place + 1 :])
 
 
@@ -320,7 +322,7 @@ def round_vectors() -> Iterator[Vector]:
     yield round_vector("P 201", sheet_of(3, 0, 1, 1, 1, 1, 201))
 
 
-# ----------------------------------------------------------------------------------------------------
+# ----------------------------------------------------------------------
 # Ticks and replays
 
 
@@ -505,7 +507,7 @@ def replay_vectors() -> Iterator[Vector]:
         yield replay_vector(f"drawn {number + 1}", table, drawn_masks(dice, table, 14))
 
 
-# ----------------------------------------------------------------------------------------------------
+# ----------------------------------------------------------------------
 # The files
 
 MAKERS = {

@@ -11,13 +11,13 @@ from typing import Iterator, NamedTuple
 
 TASKS = 8  # entries of a table and of a state
 
-# ----------------------------------------------------------------------------------------------------
+# ----------------------------------------------------------------------
 # The task table
 
 
 class Table(NamedTuple):
-    """"The task table": a policy, m processors, n tasks, and eight entries of work C, deadline D and
-    least gap P each."""
+    """Section "The task table": a policy, m processors, n tasks, and eight entries of work C,
+    deadline D and least gap P each."""
 
     policy: int
     m: int
@@ -31,12 +31,12 @@ NP_GFP, P_GFP, NP_EDF, P_EDF = range(4)
 
 
 def is_preempted(table: Table) -> bool:
-    """"The task table": P policies are 1 and 3."""
+    """Section "The task table": P policies are 1 and 3."""
     return table.policy in (P_GFP, P_EDF)
 
 
 def by_deadline(table: Table) -> bool:
-    """"The task table": EDF policies are 2 and 3."""
+    """Section "The task table": EDF policies are 2 and 3."""
     return table.policy in (NP_EDF, P_EDF)
 
 
@@ -49,7 +49,8 @@ def table_of(policy: int, m: int, tasks: list[tuple[int, int, int]]) -> Table:
 
 
 def table_fault(table: Table) -> int:
-    """"Refusals by cause", 4 to 7 for a table in memory, in that order; 0 for a valid table."""
+    """Section "Refusals by cause", 4 to 7 for a table in memory, in that order; 0 for a valid
+    table."""
     if table.policy > 3:
         return 4
     if not 1 <= table.m <= 8:
@@ -66,7 +67,7 @@ def table_fault(table: Table) -> int:
     return 0
 
 
-# ----------------------------------------------------------------------------------------------------
+# ----------------------------------------------------------------------
 # The sheet as bytes
 
 
@@ -78,10 +79,20 @@ class Refused(Exception):
         self.number = number
 
 
+def refusal(call, *arguments) -> int:
+    """The number that a call refuses with, and 0 where it does not refuse."""
+    try:
+        call(*arguments)
+    except Refused as refused:
+        return refused.number
+    return 0
+
+
 def read_number(sheet: bytes, at: int) -> tuple[int, int]:
-    """"The sheet as bytes": the number that starts at a place, and the place after it. Groups of seven
-    bits, low group first, top bit set when another follows; one or two bytes, a second byte is 1 to
-    127. Refusal 1: the bytes end before the number is complete. 2: a second byte 0 or above 127."""
+    """Section "The sheet as bytes": the number that starts at a place, and the place after it.
+    Groups of seven bits, low group first, top bit set when another follows; one or two bytes, a
+    second byte is 1 to 127. Refusal 1: the bytes end before the number is complete. 2: a second
+    byte 0 or above 127."""
     if at >= len(sheet):
         raise Refused(1)
     first = sheet[at]
@@ -96,9 +107,9 @@ def read_number(sheet: bytes, at: int) -> tuple[int, int]:
 
 
 def read_sheet(sheet: bytes) -> Table:
-    """"The sheet as bytes" and, below the table of "Refusals by cause", the order: a sheet is judged in
-    reading order, each number 1, 2, then its own rule; 7 after a task's three numbers; 8 at the end.
-    A rule is about the whole number, which goes up to 16,383."""
+    """Section "The sheet as bytes", and the order of "Refusals by cause": a sheet is judged in
+    reading order, each number 1, 2, then its own rule; 7 after a task's three numbers; 8 at the
+    end. A rule is about the whole number, which goes up to 16,383."""
     fields, at = read_number(sheet, 0)
     if fields != 3:
         raise Refused(3)
@@ -125,15 +136,16 @@ def read_sheet(sheet: bytes) -> Table:
 
 
 def number_bytes(number: int) -> bytes:
-    """"The sheet as bytes": a number of at most 16,383 as one or two groups. So 200 is C8 01."""
+    """Section "The sheet as bytes": a number of at most 16,383 as one or two groups. So 200 is C8
+    01."""
     if number < 128:
         return bytes([number])
     return bytes([128 + number % 128, number // 128])
 
 
 def sheet_bytes(table: Table) -> bytes:
-    """"The sheet as bytes", the order: fields for each task (3), policy, m, n, then C, D, P for each
-    task, and the end."""
+    """Section "The sheet as bytes", the order: fields for each task (3), policy, m, n, then C, D, P
+    for each task, and the end."""
     numbers = [3, table.policy, table.m, table.n]
     for i in range(table.n):
         numbers += [table.C[i], table.D[i], table.P[i]]
@@ -141,9 +153,9 @@ def sheet_bytes(table: Table) -> bytes:
 
 
 def write_sheet(table: Table, output: bytes) -> tuple[int, bytes]:
-    """"The sheet as bytes", the writer: the sheet at the front of the output, its length is returned,
-    later bytes stay. "Refusals by cause": 4 to 7, then 12 for an output shorter than the sheet. The
-    output handed in is not changed: what it becomes is returned."""
+    """Section "The sheet as bytes", the writer: the sheet at the front of the output, its length is
+    returned, later bytes stay. "Refusals by cause": 4 to 7, then 12 for an output shorter than the
+    sheet. The output handed in is not changed: what it becomes is returned."""
     fault = table_fault(table)
     if fault:
         raise Refused(fault)
@@ -153,13 +165,13 @@ def write_sheet(table: Table, output: bytes) -> tuple[int, bytes]:
     return len(sheet), sheet + output[len(sheet) :]
 
 
-# ----------------------------------------------------------------------------------------------------
+# ----------------------------------------------------------------------
 # State
 
 
 class State(NamedTuple):
-    """"State": for each of eight tasks c, the work left, and p, the ticks until it may be released
-    again."""
+    """Section "State": for each of eight tasks c, the work left, and p, the ticks until it may be
+    released again."""
 
     c: tuple[int, ...]
     p: tuple[int, ...]
@@ -169,28 +181,28 @@ START = State((0,) * TASKS, (0,) * TASKS)
 
 
 def time_left(table: Table, state: State, i: int) -> int:
-    """"State": d = D - (P - p), a signed number. It is spoken of where c > 0."""
+    """Section "State": d = D - (P - p), a signed number. It is spoken of where c > 0."""
     return table.D[i] - (table.P[i] - state.p[i])
 
 
 def slack(table: Table, state: State, i: int) -> int:
-    """"State": the slack is the signed number d - c."""
+    """Section "State": the slack is the signed number d - c."""
     return time_left(table, state, i) - state.c[i]
 
 
 def is_started(table: Table, state: State, i: int) -> bool:
-    """"State": started means 0 < c < C."""
+    """Section "State": started means 0 < c < C."""
     return 0 < state.c[i] < table.C[i]
 
 
 def is_late(table: Table, state: State) -> bool:
-    """"State" and step 5 of "One tick": some task has c > 0 and slack below 0."""
+    """Sections "State" and "One tick", step 5: some task has c > 0 and slack below 0."""
     return any(state.c[i] > 0 and slack(table, state, i) < 0 for i in range(TASKS))
 
 
 def is_proper(table: Table, state: State) -> bool:
-    """"State": c <= C and p <= P, every task with c > 0 has slack 0 or more, tasks after the nth are 0,
-    and, under policies 0 and 2, at most m jobs are started."""
+    """Section "State": c <= C and p <= P, every task with c > 0 has slack 0 or more, tasks after
+    the nth are 0, and, under policies 0 and 2, at most m jobs are started."""
     for i in range(table.n):
         if state.c[i] > table.C[i] or state.p[i] > table.P[i]:
             return False
@@ -206,22 +218,22 @@ def is_proper(table: Table, state: State) -> bool:
     return True
 
 
-# ----------------------------------------------------------------------------------------------------
+# ----------------------------------------------------------------------
 # One tick
 
 
 def mask_tasks(mask: int) -> list[int]:
-    """"One tick": a release mask is a byte; a bit stands for a task."""
+    """Section "One tick": a release mask is a byte; a bit stands for a task."""
     return [i for i in range(TASKS) if mask >> i & 1]
 
 
 def is_legal(table: Table, state: State, mask: int) -> bool:
-    """"One tick", step 1: every bit set must belong to a task of the table with p = 0."""
+    """Section "One tick", step 1: every bit set must belong to a task of the table with p = 0."""
     return all(i < table.n and state.p[i] == 0 for i in mask_tasks(mask))
 
 
 def release(table: Table, state: State, mask: int) -> State:
-    """"One tick", step 1: each task of the mask gets c = C, p = P."""
+    """Section "One tick", step 1: each task of the mask gets c = C, p = P."""
     c, p = list(state.c), list(state.p)
     for i in mask_tasks(mask):
         c[i], p[i] = table.C[i], table.P[i]
@@ -229,9 +241,9 @@ def release(table: Table, state: State, mask: int) -> State:
 
 
 def choose(table: Table, state: State) -> list[int]:
-    """"One tick", steps 2 and 3: the tasks that run. Ready tasks have c > 0; GFP orders them by task
-    number, EDF by smaller d, then by task number. Under P the first m run. Under NP every started job
-    runs, then the unstarted ready ones in order until m run."""
+    """Section "One tick", steps 2 and 3: the tasks that run. Ready tasks have c > 0; GFP orders
+    them by task number, EDF by smaller d, then by task number. Under P the first m run. Under NP
+    every started job runs, then the unstarted ready ones in order until m run."""
     ready = [i for i in range(TASKS) if state.c[i] > 0]
     if by_deadline(table):
         ready.sort(key=lambda i: (time_left(table, state, i), i))
@@ -245,15 +257,15 @@ def choose(table: Table, state: State) -> list[int]:
 
 
 def run(state: State, running: list[int]) -> State:
-    """"One tick", step 4: each running task's c falls by 1. Every p above 0 falls by 1."""
+    """Section "One tick", step 4: each running task's c falls by 1. Every p above 0 falls by 1."""
     c = tuple(x - 1 if i in running else x for i, x in enumerate(state.c))
     p = tuple(x - 1 if x > 0 else x for x in state.p)
     return State(c, p)
 
 
 def tick(table: Table, state: State, mask: int) -> tuple[bool, State]:
-    """"One tick": whether the tick missed (step 5), and the state after step 4. "Refusals by cause": 4
-    to 7, then 13 for a state that is not proper, then 11 for the mask."""
+    """Section "One tick": whether the tick missed (step 5), and the state after step 4. "Refusals
+    by cause": 4 to 7, then 13 for a state that is not proper, then 11 for the mask."""
     fault = table_fault(table)
     if fault:
         raise Refused(fault)
@@ -266,14 +278,15 @@ def tick(table: Table, state: State, mask: int) -> tuple[bool, State]:
     return is_late(table, after), after
 
 
-# ----------------------------------------------------------------------------------------------------
+# ----------------------------------------------------------------------
 # Replay
 
 
 class Replayed(NamedTuple):
-    """"Replay": the answer is "kept", "missed" or "refused". `tick` is the number of the tick that
-    missed or was refused, first tick 1; 0 when the list was kept or the table itself was refused.
-    The state is the last one, the one missed with, or the one that the refused tick was given."""
+    """Section "Replay": the answer is "kept", "missed" or "refused". `tick` is the number of the
+    tick that missed or was refused, first tick 1; 0 when the list was kept or the table itself was
+    refused. The state is the last one, the one missed with, or the one that the refused tick was
+    given."""
 
     answer: str
     refusal: int
@@ -282,9 +295,10 @@ class Replayed(NamedTuple):
 
 
 def replay(table: Table, masks: bytes) -> Replayed:
-    """"Replay": a byte list is played from the start state, one mask a tick. Kept with the last state;
-    Missed with the tick's number and state, later masks unread; refusal 11 with the tick's number.
-    "Refusals by cause": a call given a table applies 4 to 7 first, also when the list is empty."""
+    """Section "Replay": a byte list is played from the start state, one mask a tick. Kept with the
+    last state; Missed with the tick's number and state, later masks unread; refusal 11 with the
+    tick's number. "Refusals by cause": a call given a table applies 4 to 7 first, also when the
+    list is empty."""
     fault = table_fault(table)
     if fault:
         return Replayed("refused", fault, 0, START)
@@ -300,7 +314,7 @@ def replay(table: Table, masks: bytes) -> Replayed:
     return Replayed("kept", 0, 0, state)
 
 
-# ----------------------------------------------------------------------------------------------------
+# ----------------------------------------------------------------------
 # The search
 
 SLOT = 24  # bytes of a slot
@@ -308,7 +322,7 @@ MOST_SLOTS = 1_000_000
 
 
 def slots(work_length: int) -> int:
-    """"The search": K = work length divided by 24, rounded down, at most 1,000,000."""
+    """Section "The search": K = work length divided by 24, rounded down, at most 1,000,000."""
     return min(work_length // SLOT, MOST_SLOTS)
 
 
@@ -322,8 +336,8 @@ def successors(table: Table, state: State) -> Iterator[tuple[int, bool, State]]:
 
 
 class Level(NamedTuple):
-    """What lists of at most `ticks` ticks reach without a miss (`reached`; their number is N(ticks)),
-    and whether some list of `ticks` + 1 ticks misses with its last tick."""
+    """What lists of at most `ticks` ticks reach without a miss (`reached`; their number is
+    N(ticks)), and whether some list of `ticks` + 1 ticks misses with its last tick."""
 
     ticks: int
     reached: frozenset[State]
@@ -332,8 +346,9 @@ class Level(NamedTuple):
 
 def levels(table: Table) -> Iterator[Level]:
     """Demand 3, N(d) for d = 0, 1, 2 .., up to the first d where a list misses at the next tick, or
-    where one tick more reaches no new state (N(d) is then the greatest). Breadth first: only a state
-    that was first reached at d ticks can lead to a state first reached at d + 1, or to a first miss."""
+    where one tick more reaches no new state (N(d) is then the greatest). Breadth first: only a
+    state that was first reached at d ticks can lead to a state first reached at d + 1, or to a
+    first miss."""
     reached = {START}
     newest = {START}
     ticks = 0
@@ -349,8 +364,8 @@ def levels(table: Table) -> Iterator[Level]:
 
 
 class Verdict(NamedTuple):
-    """"The search": kind is "safe", "unsafe", "room" or "refused". L is 0 unless unsafe. N is the
-    count, and under "refused" the refusal's number."""
+    """Section "The search": kind is "safe", "unsafe", "room" or "refused". L is 0 unless unsafe. N
+    is the count, and under "refused" the refusal's number."""
 
     kind: str
     L: int
@@ -358,10 +373,10 @@ class Verdict(NamedTuple):
 
 
 def verdict(table: Table, K: int) -> Verdict:
-    """Demand 3, for a valid table and K slots. Unsafe exactly when some list misses and N(L - 1) is at
-    most K, with L and N(L - 1); Safe exactly when no list misses and N(d) is at most K for every d,
-    with the greatest N(d); No room in every other case, with K. Since N(d) never falls, no level after
-    one with N(d) above K can alter the answer."""
+    """Demand 3, for a valid table and K slots. Unsafe exactly when some list misses and N(L - 1) is
+    at most K, with L and N(L - 1); Safe exactly when no list misses and N(d) is at most K for every
+    d, with the greatest N(d); No room in every other case, with K. Since N(d) never falls, no level
+    after one with N(d) above K can alter the answer."""
     for level in levels(table):
         count = len(level.reached)
         if count > K:
@@ -372,8 +387,8 @@ def verdict(table: Table, K: int) -> Verdict:
 
 
 def search(table: Table, work_length: int, trace_length: int) -> Verdict:
-    """"The search" given a table. "Refusals by cause": 4 to 7, then 9 when K is 0, then 10 when the
-    trace space is shorter than K."""
+    """Section "The search" given a table. "Refusals by cause": 4 to 7, then 9 when K is 0, then 10
+    when the trace space is shorter than K."""
     fault = table_fault(table)
     if fault:
         return Verdict("refused", 0, fault)
@@ -386,7 +401,8 @@ def search(table: Table, work_length: int, trace_length: int) -> Verdict:
 
 
 def search_sheet(sheet: bytes, work_length: int, trace_length: int) -> Verdict:
-    """"The search" given a sheet. "Refusals by cause": 1 to 8 by the sheet, then 9 and 10."""
+    """Section "The search" given a sheet. "Refusals by cause": 1 to 8 by the sheet, then 9 and
+    10."""
     try:
         table = read_sheet(sheet)
     except Refused as refused:
@@ -395,78 +411,19 @@ def search_sheet(sheet: bytes, work_length: int, trace_length: int) -> Verdict:
 
 
 def verdict_number(found: Verdict) -> int:
-    """"The search", the call for C: kind x 2^48 + L x 2^24 + N, with kind 1 Safe, 2 Unsafe, 3 No room, 0
-    refused; L is 0 unless Unsafe; under 0, N is the refusal number."""
+    """Section "The search", the call for C: kind x 2^48 + L x 2^24 + N, with kind 1 Safe, 2 Unsafe,
+    3 No room, 0 refused; L is 0 unless Unsafe; under 0, N is the refusal number."""
     kind = {"refused": 0, "safe": 1, "unsafe": 2, "room": 3}[found.kind]
     return kind * 2**48 + found.L * 2**24 + found.N
 
 
 def state_bytes(state: State) -> bytes:
-    """"The search": the 16 state bytes of a slot: c, p of task 1, then task 2 and so on."""
+    """Section "The search": the 16 state bytes of a slot: c, p of task 1, then task 2 and so on."""
     return bytes(x for pair in zip(state.c, state.p) for x in pair)
 
 
-def slot_bytes(state: State, parent: int, mask: int) -> bytes:
-    """"The search": 16 state bytes, the parent slot in 4 bytes low byte first, the mask, three zero
-    bytes."""
-    return state_bytes(state) + parent.to_bytes(4, "little") + bytes([mask, 0, 0, 0])
-
-
-def state_of(data: bytes) -> State:
-    """The state of a slot's first 16 bytes."""
-    return State(tuple(data[0:16:2]), tuple(data[1:16:2]))
-
-
-def slots_fault(table: Table, work_before: bytes, work: bytes, found: Verdict) -> str:
-    """"The search", what the work space holds after an answer: the first N slots written, slot 0 the
-    start state with parent 0 and mask 0, any other slot's parent an earlier slot whose tick under the
-    mask gives its state; no two the same; under Safe all states reached without a miss, under Unsafe
-    all those reached in at most L - 1 ticks; every later work byte stays. Says what is wrong, or ''.
-    A refusal leaves the whole work space."""
-    count = 0 if found.kind == "refused" else found.N
-    if work[count * SLOT :] != work_before[count * SLOT :]:
-        return "a later work byte changed"
-    states: list[State] = []
-    for number in range(count):
-        data = work[number * SLOT : (number + 1) * SLOT]
-        state, parent, mask = state_of(data), int.from_bytes(data[16:20], "little"), data[20]
-        if data != slot_bytes(state, parent, mask):
-            return f"slot {number}: a spare byte is not 0"
-        if number == 0:
-            if (state, parent, mask) != (START, 0, 0):
-                return "slot 0 is not the start"
-        else:
-            if parent >= number:
-                return f"slot {number}: its parent is not earlier"
-            if not is_legal(table, states[parent], mask):
-                return f"slot {number}: its mask is not legal"
-            if tick(table, states[parent], mask) != (False, state):
-                return f"slot {number}: its state is not its parent's tick"
-        states.append(state)
-    if len(set(states)) != count:
-        return "two slots are the same"
-    if found.kind in ("safe", "unsafe"):
-        *_, last = levels(table)
-        if set(states) != last.reached:
-            return "the slots are not the states reached"
-    return ""
-
-
-def trace_fault(table: Table, trace_before: bytes, trace: bytes, found: Verdict) -> str:
-    """"The search", what the trace space holds: under Unsafe L masks at its front whose replay is Missed
-    at tick L, the rest as it was; otherwise untouched. Says what is wrong, or ''."""
-    length = found.L if found.kind == "unsafe" else 0
-    if trace[length:] != trace_before[length:]:
-        return "a later trace byte changed"
-    if length:
-        played = replay(table, trace[:length])
-        if (played.answer, played.tick) != ("missed", length):
-            return "the masks do not miss at tick L"
-    return ""
-
-
 def self_check() -> None:
-    """"Benchmark tables": every entry, starred or not."""
+    """Section "Benchmark tables": every entry, starred or not."""
     big = MOST_SLOTS
     two = table_of(P_GFP, 1, [(1, 2, 2), (1, 2, 2)])
     assert verdict(two, big) == ("safe", 0, 4) and verdict(two, 3) == ("room", 0, 3)
@@ -488,15 +445,6 @@ def self_check() -> None:
     assert verdict(long_gap, big) == ("safe", 0, 200) and verdict(long_gap, 199) == ("room", 0, 199)
     assert refusal(read_sheet, bytes.fromhex("04010101010101")) == 3
     assert refusal(read_sheet, bytes.fromhex("03010101c901c901c901")) == 7
-
-
-def refusal(call, *arguments) -> int:
-    """The number that a call refuses with, and 0 where it does not refuse."""
-    try:
-        call(*arguments)
-    except Refused as refused:
-        return refused.number
-    return 0
 
 
 if __name__ == "__main__":
