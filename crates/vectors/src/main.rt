@@ -4,6 +4,7 @@ mod number;
 mod sheet;
 mod table;
 mod text;
+mod writer;
 
 // Prints the line of one record.
 fn answer(kind: u8, body: &[u8]) {
@@ -12,6 +13,8 @@ fn answer(kind: u8, body: &[u8]) {
         b'n' => number::number(body),
         b's' => sheet::sheet(body),
         b't' => table::table(body),
+        b'w' => writer::write(body),
+        b'r' => writer::round(body),
         _ => text::unknown(),
     }
 }
