@@ -13,6 +13,7 @@ kind #, whose line is the vector's label. The kinds:
     t  a table                  table R, 0 for a valid one
     w  a table, a length        write LENGTH, or write refused R; then the whole output in hexadecimal
     r  a sheet                  read and written into 64 bytes: round as write, or round refused R
+    c  a table, a state         choose, then 1 or 0 for each of the eight tasks: whether it runs
     k  a table, a state, a mask tick next, tick missed or tick refused R; then the state
     p  a table, masks           replay kept, replay missed TICK or replay refused R TICK; then the state
 
@@ -99,6 +100,12 @@ def round_vector(label: str, sheet: bytes) -> Vector:
     except ref.Refused as refused:
         line = f"round refused {refused.number}"
     return Vector("r", label, sheet, line)
+
+
+def choose_vector(label: str, table: Table, state: State) -> Vector:
+    running = ref.choose(table, state)
+    flags = [1 if i in running else 0 for i in range(8)]
+    return Vector("c", label, table_bytes(table) + ref.state_bytes(state), f"choose {numbers(flags)}")
 
 
 def tick_vector(label: str, table: Table, state: State, mask: int) -> Vector:
@@ -379,6 +386,24 @@ def state_of(*tasks: tuple[int, int]) -> State:
 NAMES = ("NP-GFP", "P-GFP", "NP-EDF", "P-EDF")
 
 
+def choose_vectors() -> Iterator[Vector]:
+    """The choice is made in any state of a valid table, also in one that a tick refuses."""
+    for policy, name in enumerate(NAMES):
+        one, two = table_of(policy, 1, [(3, 9, 9)] * 4), table_of(policy, 2, [(3, 9, 9)] * 4)
+        yield choose_vector(f"{name}: nothing ready", two, state_of((0, 5), (0, 0)))
+        yield choose_vector(f"{name}: four unstarted, two cores", two, state_of(*[(3, 9)] * 4))
+        yield choose_vector(f"{name}: the last one started, two cores", two, state_of(*[(3, 9)] * 3, (2, 9)))
+        yield choose_vector(f"{name}: all four started, one core", one, state_of(*[(2, 9)] * 4))
+        yield choose_vector(f"{name}: c above C is not started", one, state_of((0, 0), (3, 9), (4, 9), (5, 9)))
+        yield choose_vector(f"{name}: after the nth", one, state_of(*[(0, 0)] * 5, (1, 0), (2, 0)))
+        spread = table_of(policy, 1, [(1, 100, 100), (1, 1, 50), (1, 1, 100), (1, 1, 200), (1, 200, 200)])
+        yield choose_vector(f"{name}: d 100, -49, -99", spread, state_of((1, 100), (1, 0), (1, 0)))
+        yield choose_vector(f"{name}: d 100 and -199", spread, state_of((1, 100), (0, 0), (0, 0), (1, 0)))
+        yield choose_vector(f"{name}: d 100 and 200", spread, state_of((1, 100), (0, 0), (0, 0), (0, 0), (1, 200)))
+        yield choose_vector(f"{name}: d 255 and 200", spread, state_of((1, 255), (0, 0), (0, 0), (0, 0), (1, 200)))
+        yield choose_vector(f"{name}: d -49 three times", spread, state_of((0, 0), (1, 0), (1, 50), (1, 150)))
+
+
 def tick_vectors() -> Iterator[Vector]:
     for policy, name in enumerate(NAMES):
         table = table_of(policy, 1, TWO)
@@ -478,13 +503,13 @@ def replay_vectors() -> Iterator[Vector]:
     for policy, name in enumerate(NAMES):
         two = table_of(policy, 1, TWO)
         yield replay_vector(f"{name}: the empty list", two, b"")
-        yield replay_vector(f"{name}: both, every second tick", two, bytes([3, 0] * 5))
-        yield replay_vector(f"{name}: one at a time", two, bytes([1, 2] * 5))
+        yield replay_vector(f"{name}: both, every second tick", two, bytes([3, 0] * 3))
+        yield replay_vector(f"{name}: one at a time", two, bytes([1, 2] * 3))
         yield replay_vector(f"{name}: C = D, masks 3, 0", table_of(policy, 1, [(2, 2, 2), (1, 2, 2)]), bytes([3, 0]))
         yield replay_vector(f"{name}: after the miss nothing is read", table_of(policy, 1, [(2, 2, 2), (1, 2, 2)]), bytes([3, 0, 255, 255]))
         yield replay_vector(f"{name}: masks 2, 1, an urgent job", table_of(policy, 1, [(1, 1, 2), (2, 4, 4)]), bytes([2, 1]))
         yield replay_vector(f"{name}: a miss at the first tick", table_of(policy, 1, [(1, 1, 2), (1, 1, 2)]), bytes([3]))
-        yield replay_vector(f"{name}: C = D = P = 1, released at every tick", table_of(policy, 1, [(1, 1, 1)]), bytes([1] * 9))
+        yield replay_vector(f"{name}: C = D = P = 1, released at every tick", table_of(policy, 1, [(1, 1, 1)]), bytes([1] * 5))
         yield replay_vector(f"{name}: a gap is a least gap", table_of(policy, 1, [(1, 2, 3), (2, 4, 5)]), bytes([3, 0, 0, 0, 1, 2, 0, 0, 1]))
         yield replay_vector(f"{name}: a mask too early, at tick 4", two, bytes([1, 0, 3, 1]))
         yield replay_vector(f"{name}: a bit for no task, at tick 1", two, bytes([4]))
@@ -502,9 +527,9 @@ def replay_vectors() -> Iterator[Vector]:
         yield replay_vector(f"n 0, {name}", changed(table, n=0), masks)
         yield replay_vector(f"an entry after the nth, {name}", changed(table, C=entry(table.C, 7, 1)), masks)
     dice = Dice(2)
-    for number in range(18):
+    for number in range(12):
         table = dice.table((4, 12, 200)[number % 3])
-        yield replay_vector(f"drawn {number + 1}", table, drawn_masks(dice, table, 14))
+        yield replay_vector(f"drawn {number + 1}", table, drawn_masks(dice, table, 12))
 
 
 # ----------------------------------------------------------------------
@@ -516,6 +541,7 @@ MAKERS = {
     "t": table_vectors,
     "w": write_vectors,
     "r": round_vectors,
+    "c": choose_vectors,
     "k": tick_vectors,
     "p": replay_vectors,
 }
