@@ -7,6 +7,7 @@ meant to be read beside the paper. Each function's docstring names the section t
 A sheet and an output are `bytes`. Tasks are counted from 0 here and from 1 in the paper, so task i
 of this file is the paper's task i + 1 and has bit i of a mask.
 """
+from itertools import product
 from typing import Iterator, NamedTuple
 
 TASKS = 8  # entries of a table and of a state
@@ -363,6 +364,21 @@ def levels(table: Table) -> Iterator[Level]:
         ticks += 1
 
 
+def by_every_list(table: Table, ticks: int) -> tuple[set[State], int]:
+    """Demand 3 to the letter, for small tables: the states that lists of at most so many ticks
+    reach, and the least number of ticks that a list among them has that misses, 0 where none does.
+    Of the masks with a bit for no task, which are all refused, one stands for all."""
+    reached, least = set(), 0
+    for length in range(ticks + 1):
+        for masks in product(range(2**table.n + 1), repeat=length):
+            played = replay(table, bytes(masks))
+            if played.answer == "kept":
+                reached.add(played.state)
+            elif played.answer == "missed" and least == 0:
+                least = length
+    return reached, least
+
+
 class Verdict(NamedTuple):
     """Section "The search": kind is "safe", "unsafe", "room" or "refused". L is 0 unless unsafe. N
     is the count, and under "refused" the refusal's number."""
@@ -423,7 +439,8 @@ def state_bytes(state: State) -> bytes:
 
 
 def self_check() -> None:
-    """Section "Benchmark tables": every entry, starred or not."""
+    """Section "Benchmark tables": every entry, starred or not. Then demand 3: the levels are those
+    that replaying every list gives."""
     big = MOST_SLOTS
     two = table_of(P_GFP, 1, [(1, 2, 2), (1, 2, 2)])
     assert verdict(two, big) == ("safe", 0, 4) and verdict(two, 3) == ("room", 0, 3)
@@ -445,6 +462,14 @@ def self_check() -> None:
     assert verdict(long_gap, big) == ("safe", 0, 200) and verdict(long_gap, 199) == ("room", 0, 199)
     assert refusal(read_sheet, bytes.fromhex("04010101010101")) == 3
     assert refusal(read_sheet, bytes.fromhex("03010101c901c901c901")) == 7
+    for policy in range(4):
+        for tasks in ([(1, 2, 2), (1, 2, 2)], [(1, 1, 2), (2, 4, 4)], [(2, 3, 4), (2, 5, 5)]):
+            table = table_of(policy, 1, tasks)
+            for level in list(levels(table))[:4]:
+                reached, _ = by_every_list(table, level.ticks)
+                _, least = by_every_list(table, level.ticks + 1)
+                assert level.reached == reached
+                assert level.misses_next == (least == level.ticks + 1)
 
 
 if __name__ == "__main__":
