@@ -6,7 +6,7 @@ use tasks::Table;
 pub const LENGTH: usize = 27;
 
 // Eight bytes of a body.
-pub fn eight(b: &[u8]) -> [u8; 8] {
+fn eight(b: &[u8]) -> [u8; 8] {
     [
         text::byte(b, 0),
         text::byte(b, 1),
