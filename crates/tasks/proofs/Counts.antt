@@ -5,7 +5,11 @@ use mathlib.Core.Bool.{Bool, true, false, _||_}
 use native.Mathlib.Omega.{arith}
 use native.Mathlib.Decide.{ℕ-discrete}
 use Rattle.tasks.specs.Lists.{pick, count, any}
+<<<<<<< HEAD
 use Rattle.tasks.proofs.Bools.{by-bool, nor-left, nor-right}
+=======
+use Rattle.tasks.proofs.Bools.{clash, or-left, or-right, or-cases, nor-left, nor-right}
+>>>>>>> 6f65fc63f419544c5e08f0d337e178afcb351f81
 
 pick-le : (a b : Bool) → (a ≡ true → b ≡ true) → pick a 1 0 ≤ pick b 1 0
 pick-le true b f = rw (f refl) (omega arith)
@@ -70,3 +74,25 @@ pub none-any : (p : ℕ → Bool) (n : ℕ) → ((k : ℕ) → k < n → p k ≡
 unfolding any
 none-any p zero f = refl
 none-any p (suc n) f = rw (none-any p n (λ k h. f k (omega arith)), f n (omega arith))
+<<<<<<< HEAD
+=======
+
+-- where k passes, some number does
+pub some-any : (p : ℕ → Bool) (n k : ℕ) → k < n → p k ≡ true → any n p ≡ true
+unfolding any
+some-any p zero k h e = absurd (omega arith)
+some-any p (suc n) k h e =
+    elim (ℕ-discrete k n) [
+      | yes q ↦ or-right (any n p) (rw q at e)
+      | no q ↦ or-left (p n) (some-any p n k (omega arith) e)
+    ]
+
+-- where some number passes, there is one
+pub any-some : (p : ℕ → Bool) (n : ℕ) → any n p ≡ true → (k : ℕ) × (k < n) × (p k ≡ true)
+unfolding any
+any-some p zero e = clash e refl
+any-some p (suc n) e =
+    or-cases (any n p) (p n) e
+    (λ h. let r = any-some p n h in (r .0, omega (arith, r .1), r .2))
+    (λ h g. (n, omega arith, g))
+>>>>>>> 6f65fc63f419544c5e08f0d337e178afcb351f81

@@ -1,4 +1,4 @@
--- Laws that several proofs cite.
+-- Laws that several proofs cite. Those that speak of the model for other layers are marked LAW.
 pub mod Bools
 pub mod Picks
 pub mod Turns
@@ -11,3 +11,14 @@ pub mod Fields
 pub mod Sheets
 pub mod RoundTrip
 pub mod Again
+pub mod Order
+pub mod Signed
+pub mod Valid
+pub mod Legal
+pub mod Choice
+pub mod Place
+pub mod After
+pub mod Proper
+pub mod Late
+pub mod Answered
+pub mod Played

@@ -3,3 +3,7 @@ pub mod Table
 pub mod Number
 pub mod Sheet
 pub mod Answers
+pub mod State
+pub mod Tick
+pub mod Places
+pub mod Replay

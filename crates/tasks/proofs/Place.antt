@@ -1,0 +1,151 @@
+-- The order of the places is the order of the jobs. Assumes nothing.
+use Prim.Native.Nat.{ℕ, zero, suc, _+_, _-_, _*_, _≤_, _<_}
+use mathlib.Core.Path.{_≡_, refl, sym, ap, ap₂, _∙_}
+use mathlib.Core.List.{List}
+use mathlib.Core.Bool.{Bool, true, false, not, _&&_, _||_}
+use native.Mathlib.Omega.{arith}
+use native.Mathlib.Nat.{mul-le-mul-right}
+use native.Mathlib.Decide.{ℕ-discrete}
+use lib.Dec.{ltb, eqb}
+use lib.ListN.{getD}
+use lib.IntN.{ℤ, pos}
+use lib.Signed.{ltZ}
+use mir.Syntax.{w8, w16}
+use mir.Val.{Fits, boolByte}
+use borrow.Author.Tests.{lt-ltb, le-ltb, eq-eqb, ne-eqb}
+use Rattle.tasks.specs.Lists.{eight, pick, count}
+use Rattle.tasks.specs.State.{timeLeft, timeLeftAt, ready, keeps}
+use Rattle.tasks.specs.Tick.{lex, key, before, ahead, runs, chosen}
+use Rattle.tasks.specs.Places.{shifted, packed, shiftedAt, place, under, rank, taken}
+use Rattle.tasks.specs.declared.state.State.{State}
+use Rattle.tasks.specs.declared.table.Table.{Table}
+use Rattle.tasks.proofs.Fill.{eight-at}
+use Rattle.tasks.proofs.Turns.{count-turn, count-room}
+use Rattle.tasks.proofs.Bools.{by-bool}
+use Rattle.tasks.proofs.Counts.{count-same}
+use Rattle.tasks.proofs.Signed.{by-lt, ltb-same, time-left-less}
+
+-- ---- a field put below another
+
+-- a smaller high field decides, whatever the low ones below w are
+high : (w a b x : ℕ) → a < b → x < w → a * w + x < b * w
+high w a b x h f = omega (arith, mul-le-mul-right {m = suc a} {n = b} w (omega arith), row)
+  where
+    row : suc a * w ≡ a * w + w
+    row = omega arith
+
+-- numbers made of a high field and a low one below w compare by the high one first
+pub pack-less : (w a b x y : ℕ) → x < w → y < w → ltb (a * w + x) (b * w + y) ≡ (ltb a b || (not (ltb b a) && ltb x y))
+pack-less w a b x y f g =
+    by-lt a b
+    (λ h. rw (lt-ltb a b h) (lt-ltb (a * w + x) (b * w + y) (omega (arith, high w a b x h f))))
+    (λ h.
+    by-lt b a
+    (λ k. rw (le-ltb a b h, lt-ltb b a k) (le-ltb (a * w + x) (b * w + y) (omega (arith, high w b a y k g))))
+    (λ k. let q : a ≡ b = omega arith in rw (q, le-ltb b b (omega arith)) (ltb-same (b * w + x) (b * w + y) x y (λ z. omega arith) (λ z. omega arith))))
+
+-- ---- the key, moved up so that it is a natural number
+
+-- the numbers of a task are bytes
+pub record Bytes (t : Table) (s : State) (i : ℕ) : Type 0 where
+  pub deadline : Fits w8 (getD (t .deadline) i 0)
+  pub gap : Fits w8 (getD (t .gap) i 0)
+  pub p : Fits w8 (getD (s .p) i 0)
+
+shift-less : (d g p e h q : ℕ) → Fits w8 g → Fits w8 h → ltb (d + p + h) (e + q + g) ≡ ltb (256 + d + p - g) (256 + e + q - h)
+shift-less d g p e h q a b = ltb-same (d + p + h) (e + q + g) (256 + d + p - g) (256 + e + q - h) (λ z. omega arith) (λ z. omega arith)
+
+module _ (t : Table) (s : State) where
+  pub key-less : (j i : ℕ) → Bytes t s j → Bytes t s i → ltZ (key t s j) (key t s i) ≡ ltb (shiftedAt t s j) (shiftedAt t s i)
+  unfolding key shiftedAt
+  key-less j i a b =
+      by-bool (ltb (t .policy) 2) (λ e. rw e) (λ e.
+      rw e
+      (time-left-less (getD (t .deadline) j 0) (getD (t .gap) j 0) (getD (s .p) j 0) (getD (t .deadline) i 0) (getD (t .gap) i 0) (getD (s .p) i 0)
+      ∙ shift-less (getD (t .deadline) j 0) (getD (t .gap) j 0) (getD (s .p) j 0) (getD (t .deadline) i 0) (getD (t .gap) i 0) (getD (s .p) i 0) (a .gap) (b .gap)))
+
+  pub shifted-range : (i : ℕ) → Bytes t s i → (0 < shiftedAt t s i) × (shiftedAt t s i < 1024)
+  unfolding shiftedAt
+  shifted-range i b = by-bool (ltb (t .policy) 2) (λ e. rw e (omega arith)) (λ e. rw e (omega (arith, b .deadline, b .gap, b .p)))
+
+  before-packed : (j i : ℕ) → j < 8 → i < 8 → Bytes t s j → Bytes t s i → ltb (shiftedAt t s j * 8 + j) (shiftedAt t s i * 8 + i) ≡ before t s j i
+  unfolding before
+  before-packed j i h k a b =
+      pack-less 8 (shiftedAt t s j) (shiftedAt t s i) j i h k ∙ rw (key-less j i a b, key-less i j b a)
+
+  -- ---- the places
+
+  place-none : (i : ℕ) → ready s i ≡ false → place t s i ≡ 65535
+  unfolding place
+  place-none i r = rw r
+
+  place-kept : (i : ℕ) → ready s i ≡ true → keeps t s i ≡ true → place t s i ≡ 0
+  unfolding place
+  place-kept i r e = rw (r, e)
+
+  place-free : (i : ℕ) → ready s i ≡ true → keeps t s i ≡ false → place t s i ≡ shiftedAt t s i * 8 + i
+  unfolding place
+  place-free i r e = rw (r, e)
+
+  pub place-ahead : (j i : ℕ) → j < 8 → i < 8 → Bytes t s j → Bytes t s i → ready s i ≡ true → keeps t s i ≡ false → ltb (place t s j) (place t s i) ≡ ahead t s i j
+  unfolding ahead
+  place-ahead j i h k a b r e =
+      rw (place-free i r e)
+      (by-bool (ready s j)
+      (λ y.
+      by-bool (keeps t s j)
+      (λ z. rw (place-kept j y z, y, z) (lt-ltb 0 (shiftedAt t s i * 8 + i) (omega (arith, shifted-range i b .0))))
+      (λ z. rw (place-free j y z, y, z) (before-packed j i h k a b)))
+      (λ y. rw (place-none j y, y) (le-ltb 65535 (shiftedAt t s i * 8 + i) (omega (arith, shifted-range i b .1)))))
+
+  -- ---- the choice
+
+  module _ (bytes : (i : ℕ) → i < 8 → Bytes t s i) where
+    counted : (i : ℕ) → i < 8 → ready s i ≡ true → keeps t s i ≡ false → rank (eight (place t s)) 8 i ≡ count 8 (ahead t s i)
+    unfolding rank under
+    counted i h r e =
+        count-same (under (eight (place t s)) (getD (eight (place t s)) i 0)) (ahead t s i) 8
+        (λ j k. ap₂ ltb (eight-at 0 (place t s) j k) (eight-at 0 (place t s) i h) ∙ place-ahead j i k h (bytes j k) (bytes i h) r e)
+
+    some : (i : ℕ) → i < 8 → ready s i ≡ true → keeps t s i ≡ false → ltb (place t s i) 65535 ≡ true
+    some i h r e = rw (place-free i r e) (lt-ltb (shiftedAt t s i * 8 + i) 65535 (omega (arith, shifted-range i (bytes i h) .1)))
+
+    none : (i : ℕ) → i < 8 → ready s i ≡ true → keeps t s i ≡ false → eqb (place t s i) 0 ≡ false
+    none i h r e = rw (place-free i r e) (ne-eqb (shiftedAt t s i * 8 + i) 0 (λ q. omega (arith, shifted-range i (bytes i h) .0)))
+
+    taken-runs : (i : ℕ) → i < 8 → taken (eight (place t s)) (t .m) i ≡ runs t s i
+    unfolding taken runs
+    taken-runs i h =
+        rw (eight-at 0 (place t s) i h)
+        (by-bool (ready s i)
+        (λ r.
+        by-bool (keeps t s i)
+        (λ e. rw (place-kept i r e, r, e))
+        (λ e. rw (counted i h r e, r, e)
+        (ap₂ (λ x y. x && (y || ltb (count 8 (ahead t s i)) (t .m))) (some i h r e) (none i h r e))))
+        (λ r. rw (place-none i r, r)))
+
+    -- the tasks taken by their places are those that run
+    pub taken-chosen : eight (taken (eight (place t s)) (t .m)) ≡ chosen t s
+    unfolding chosen
+    taken-chosen = rw (taken-runs 0 (omega arith), taken-runs 1 (omega arith), taken-runs 2 (omega arith), taken-runs 3 (omega arith), taken-runs 4 (omega arith), taken-runs 5 (omega arith), taken-runs 6 (omega arith), taken-runs 7 (omega arith))
+
+-- ---- the ranks, one place counted a turn
+
+module _ (places : List ℕ) where
+  pub rank-start : eight (λ i. 0) ≡ eight (rank places 0)
+  unfolding rank count
+  rank-start = refl
+
+  module _ {ranks : List ℕ} (i j : ℕ) (e : ranks ≡ eight (rank places i)) (h : j < 8) where
+    pub rank-read : getD ranks j 0 ≡ rank places i j
+    rank-read = ap (λ l. getD l j 0) e ∙ eight-at 0 (rank places i) j h
+
+    pub rank-turn : getD ranks j 0 + boolByte (ltb (getD places i 0) (getD places j 0)) ≡ rank places (i + 1) j
+    unfolding rank under
+    rank-turn = count-turn (under places (getD places j 0)) i rank-read refl
+
+    pub rank-room : i ≤ 8 → Fits w16 (getD ranks j 0 + boolByte (ltb (getD places i 0) (getD places j 0)))
+    unfolding rank
+    rank-room k =
+        let f = count-room (under places (getD places j 0)) (ltb (getD places i 0) (getD places j 0)) rank-read k in omega arith

@@ -1,0 +1,88 @@
+use Prim.Native.Nat.{_≤_, _-_, _+_}
+use mathlib.Core.Path.{refl}
+use Rattle.tasks.specs.Places.{rank}
+use Rattle.tasks.proofs.Fill.{Filled, filled-start, filled-store, filled-end}
+use Rattle.tasks.proofs.Place.{rank-turn, rank-room}
+use native.Mathlib.Omega.{arith}
+use borrow.Author.Needs.{needs}
+use Rattle.tasks.proofs.places.count_place.Statement.{statement}
+use Rattle.tasks.proofs.places.count_place.Tie as tie
+use Rattle.tasks.proofs.places.count_place.Reads as reads
+use Rattle.tasks.proofs.places.count_place.Lts as lts
+
+abbrev Inv-loop : tie.InvT-loop
+Inv-loop i ranks places y out₀ j₀ out j = (j ≤ 8) × Filled 0 (rank places (i + 1)) out j
+
+abbrev μ-loop : tie.MeasureT-loop
+μ-loop i ranks places y out₀ j₀ out j = 8 - j
+
+mul-y : tie.Need-mul-y Inv-loop μ-loop
+mul-y c = search needs
+
+array-read-y : tie.Need-array-read-y Inv-loop μ-loop
+array-read-y c = search needs
+
+loop-holds : tie.Need-loop-holds Inv-loop μ-loop
+loop-holds c = (omega arith, filled-start refl)
+
+mul-out : tie.Need-mul-out Inv-loop μ-loop
+mul-out c = search needs
+
+array-read-out : tie.Need-array-read-out Inv-loop μ-loop
+array-read-out c = search needs
+
+mul-out-2 : tie.Need-mul-out-2 Inv-loop μ-loop
+mul-out-2 c = search needs
+
+array-read-out-2 : tie.Need-array-read-out-2 Inv-loop μ-loop
+array-read-out-2 c = search needs
+
+cast-out : tie.Need-cast-out Inv-loop μ-loop
+cast-out c = search needs
+
+add-out : tie.Need-add-out Inv-loop μ-loop
+add-out c =
+    let a = c .before .before .args in
+    rank-room (a .t2) (a .i) (c .before .loop .j) (c .before .before .pre .1) (omega arith) (omega arith)
+
+mul-out-3 : tie.Need-mul-out-3 Inv-loop μ-loop
+mul-out-3 c = search needs
+
+array-write-out : tie.Need-array-write-out Inv-loop μ-loop
+array-write-out c = search needs
+
+add-j : tie.Need-add-j Inv-loop μ-loop
+add-j c = search needs
+
+loop-less : tie.Need-loop-less Inv-loop μ-loop
+loop-less c = search needs
+
+loop-again : tie.Need-loop-again Inv-loop μ-loop
+loop-again c =
+    let a = c .before .before .args in
+    (omega arith, filled-store (c .before .loop .inv .1) (omega arith) (rank-turn (a .t2) (a .i) (c .before .loop .j) (c .before .before .pre .1) (omega arith)))
+
+returns : tie.Need-returns Inv-loop μ-loop
+returns c = filled-end (c .before .loop .inv .1) (c .loop-test .left)
+
+pub count-place-spec : {M : Type 1} → statement M
+count-place-spec =
+    tie.close
+    (tie.spec
+    Inv-loop
+    μ-loop
+    mul-y
+    array-read-y
+    loop-holds
+    mul-out
+    array-read-out
+    mul-out-2
+    array-read-out-2
+    cast-out
+    add-out
+    mul-out-3
+    array-write-out
+    add-j
+    loop-less
+    loop-again
+    returns)

@@ -1,0 +1,27 @@
+use native.Mathlib.Omega.{arith}
+use borrow.Author.Needs.{needs}
+use Rattle.tasks.proofs.places.packed.Statement.{statement}
+use Rattle.tasks.proofs.places.packed.Tie as tie
+use Rattle.tasks.proofs.places.packed.Reads as reads
+use Rattle.tasks.proofs.places.packed.Lts as lts
+
+returns : tie.Need-returns
+returns c = search needs
+
+mul-result : tie.Need-mul-result
+mul-result c = search needs
+
+cast-result : tie.Need-cast-result
+cast-result c = search needs
+
+add-result : tie.Need-add-result
+add-result c = search needs
+
+returns-2 : tie.Need-returns-2
+returns-2 c = rw (c .before .if1 .taken, c .if2 .left)
+
+returns-3 : tie.Need-returns-3
+returns-3 c = search needs
+
+pub packed-spec : {M : Type 1} → statement M
+packed-spec = tie.close (tie.spec returns mul-result cast-result add-result returns-2 returns-3)

@@ -1,0 +1,45 @@
+use mathlib.Core.Path.{refl}
+use native.Mathlib.Omega.{arith}
+use borrow.Author.Needs.{needs}
+use Rattle.tasks.proofs.places.shifted.Statement.{statement}
+use Rattle.tasks.proofs.places.shifted.Tie as tie
+use Rattle.tasks.proofs.places.shifted.Reads as reads
+use Rattle.tasks.proofs.places.shifted.Lts as lts
+use Rattle.tasks.proofs.places.wide.Reads as wide-reads
+
+returns : tie.Need-returns
+returns c = search needs
+
+wide-requires : tie.Need-wide-requires
+wide-requires c κs = search needs
+
+add-result : tie.Need-add-result
+add-result c = search needs
+
+wide-requires-2 : tie.Need-wide-requires-2
+wide-requires-2 c κs = search needs
+
+add-result-2 : tie.Need-add-result-2
+add-result-2 c = search needs
+
+wide-requires-3 : tie.Need-wide-requires-3
+wide-requires-3 c κs = search needs
+
+sub-result : tie.Need-sub-result
+sub-result c = search needs
+
+returns-2 : tie.Need-returns-2
+returns-2 c = (rw (c .before .before .before .if1 .left, c .before .before .wide .ensures .0, c .before .wide2 .ensures .0, c .wide3 .ensures .0), omega arith)
+
+pub shifted-spec : {M : Type 1} → statement M
+shifted-spec =
+    tie.close
+    (tie.spec
+    returns
+    wide-requires
+    add-result
+    wide-requires-2
+    add-result-2
+    wide-requires-3
+    sub-result
+    returns-2)

@@ -1,0 +1,31 @@
+use native.Mathlib.Omega.{arith}
+use mir.Syntax.{w16}
+use mir.ValLaws.{toZ-ofZ}
+use Rattle.tasks.proofs.Signed.{back, byte, time-left-fits, slack-fits}
+use borrow.Author.Needs.{needs}
+use Rattle.tasks.proofs.state.slack_of.Statement.{statement}
+use Rattle.tasks.proofs.state.slack_of.Tie as tie
+use Rattle.tasks.proofs.state.slack_of.Reads as reads
+use Rattle.tasks.proofs.state.slack_of.Lts as lts
+use Rattle.tasks.proofs.state.time_left.Reads as time-left-reads
+
+time-left-requires : tie.Need-time-left-requires
+time-left-requires c κs = search needs
+
+cast-result : tie.Need-cast-result
+cast-result c = search needs
+
+sub-result : tie.Need-sub-result
+sub-result c =
+    let f = c .before .fits in
+    rw (back (c .time-left .result) (c .time-left .ok), byte (f .c), c .time-left .ensures)
+    (slack-fits (f .deadline) (f .gap) (f .p) (f .c))
+
+returns : tie.Need-returns
+returns c =
+    let f = c .before .fits in
+    rw
+    (back (c .time-left .result) (c .time-left .ok), byte (f .c), c .time-left .ensures, toZ-ofZ w16 _ (slack-fits (f .deadline) (f .gap) (f .p) (f .c)))
+
+pub slack-of-spec : {M : Type 1} → statement M
+slack-of-spec = tie.close (tie.spec time-left-requires cast-result sub-result returns)

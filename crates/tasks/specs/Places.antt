@@ -1,0 +1,38 @@
+-- The choice by one number a task, its place: the smaller goes first. No part of the paper's model: the contracts of
+-- the private functions of src/places.rt cite it, and proofs/Place.antt shows that it gives the choice of Tick.antt.
+use Prim.Native.Nat.{ℕ, _+_, _-_, _*_}
+use mathlib.Core.List.{List}
+use mathlib.Core.Bool.{Bool, true, false, _&&_, _||_}
+use lib.ListN.{getD}
+use lib.Dec.{ltb, eqb}
+use Rattle.tasks.specs.Lists.{pick, count}
+use Rattle.tasks.specs.State.{ready, keeps}
+use Rattle.tasks.specs.declared.state.State.{State}
+use Rattle.tasks.specs.declared.table.Table.{Table}
+
+-- 256 more than the key, so that it is a natural number above 0
+abbrev pub shifted : Bool → ℕ → ℕ → ℕ → ℕ
+shifted fixed deadline gap p = pick fixed 256 (256 + deadline + p - gap)
+
+-- 0 for a job that keeps its processor, 65535 for no job, else the key and below it the task's number
+abbrev pub packed : Bool → Bool → ℕ → ℕ → ℕ
+packed has stays key i = pick has (pick stays 0 (key * 8 + i)) 65535
+
+unfoldable pub shiftedAt : Table → State → ℕ → ℕ
+shiftedAt t s i = shifted (ltb (t .policy) 2) (getD (t .deadline) i 0) (getD (t .gap) i 0) (getD (s .p) i 0)
+
+-- the place of task i
+unfoldable pub place : Table → State → ℕ → ℕ
+place t s i = packed (ready s i) (keeps t s i) (shiftedAt t s i) i
+
+-- the place at k is below x
+unfoldable pub under : List ℕ → ℕ → ℕ → Bool
+under places x k = ltb (getD places k 0) x
+
+-- how many of the first n places are below that of task i
+unfoldable pub rank : List ℕ → ℕ → ℕ → ℕ
+rank places n i = count n (under places (getD places i 0))
+
+-- task i runs, by its place and its rank among all
+unfoldable pub taken : List ℕ → ℕ → ℕ → Bool
+taken places m i = ltb (getD places i 0) 65535 && (eqb (getD places i 0) 0 || ltb (rank places 8 i) m)

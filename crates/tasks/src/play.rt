@@ -1,0 +1,76 @@
+// The replay of a release list, one mask a tick, from the start state.
+ghost use mathlib.Core.Path.{_≡_};
+ghost use Prim.Native.Nat.{_≤_};
+ghost use Rattle.tasks.specs.State.{start};
+ghost use Rattle.tasks.specs.Replay.{played, replayed, replayTick};
+use crate::state::State;
+use crate::table::Table;
+use crate::tick::TickAnswer;
+
+// How a played list ended: kept, or missed at the tick of that number, the first being 1.
+pub enum Outcome {
+    Kept,
+    Missed(usize),
+}
+
+// Played, or refused: the refusal's number, and the tick's, which is 0 where the table is refused.
+pub enum ReplayAnswer {
+    Played(Outcome),
+    Refused(u8, usize),
+}
+
+// The answer, and the state beside it: the last one, the one after the miss, or the one given to the refused tick.
+pub struct Replayed {
+    pub answer: ReplayAnswer,
+    pub state: State,
+}
+
+// The masks played from the start state, up to the first miss or refusal; later masks are not read.
+fn play(t: Table, masks: &[u8]) -> Replayed
+    ensures { λ r. ⌜ r ≡ played t start 0 (now (masks .entry)) ⌝ }
+{
+    let mut s = State::start();
+    let mut i: usize = 0;
+    while i < masks.len() {
+        let r = s.tick(t, masks[i]);
+        let answer = r.answer;
+        let next = r.state;
+        i += 1;
+        match answer {
+            TickAnswer::Next => {
+                s = next;
+            }
+            TickAnswer::Missed => {
+                return Replayed {
+                    answer: ReplayAnswer::Played(Outcome::Missed(i)),
+                    state: next,
+                };
+            }
+            TickAnswer::Refused(number) => {
+                return Replayed {
+                    answer: ReplayAnswer::Refused(number, i),
+                    state: s,
+                };
+            }
+        }
+    }
+    Replayed {
+        answer: ReplayAnswer::Played(Outcome::Kept),
+        state: s,
+    }
+}
+
+// The replay of a list, for any table: a bad table is refused before the first tick, with the start state.
+pub fn replay(t: Table, masks: &[u8]) -> Replayed
+    ensures { λ r. do ⌜ (r ≡ replayed t (now (masks .entry))) × (replayTick (r .answer) ≤ (← ⟦masks.len()⟧ .entry)) ⌝ }
+{
+    let fault = t.fault();
+    if 0 < fault {
+        let s = State::start();
+        return Replayed {
+            answer: ReplayAnswer::Refused(fault, 0),
+            state: s,
+        };
+    }
+    play(t, masks)
+}
