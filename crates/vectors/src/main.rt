@@ -5,6 +5,7 @@ mod number;
 mod sheet;
 mod table;
 mod text;
+mod tick;
 mod writer;
 
 // Prints the line of one record.
@@ -16,6 +17,9 @@ fn answer(kind: u8, body: &[u8]) {
         b't' => table::table(body),
         b'w' => writer::write(body),
         b'r' => writer::round(body),
+        b'c' => tick::choose(body),
+        b'k' => tick::tick(body),
+        b'p' => tick::replay(body),
         _ => text::unknown(),
     }
 }
