@@ -5,11 +5,7 @@ use mathlib.Core.Bool.{Bool, true, false, _||_}
 use native.Mathlib.Omega.{arith}
 use native.Mathlib.Decide.{ℕ-discrete}
 use Rattle.tasks.specs.Lists.{pick, count, any}
-<<<<<<< HEAD
-use Rattle.tasks.proofs.Bools.{by-bool, nor-left, nor-right}
-=======
 use Rattle.tasks.proofs.Bools.{clash, or-left, or-right, or-cases, nor-left, nor-right}
->>>>>>> 6f65fc63f419544c5e08f0d337e178afcb351f81
 
 pick-le : (a b : Bool) → (a ≡ true → b ≡ true) → pick a 1 0 ≤ pick b 1 0
 pick-le true b f = rw (f refl) (omega arith)
@@ -74,8 +70,6 @@ pub none-any : (p : ℕ → Bool) (n : ℕ) → ((k : ℕ) → k < n → p k ≡
 unfolding any
 none-any p zero f = refl
 none-any p (suc n) f = rw (none-any p n (λ k h. f k (omega arith)), f n (omega arith))
-<<<<<<< HEAD
-=======
 
 -- where k passes, some number does
 pub some-any : (p : ℕ → Bool) (n k : ℕ) → k < n → p k ≡ true → any n p ≡ true
@@ -95,4 +89,3 @@ any-some p (suc n) e =
     or-cases (any n p) (p n) e
     (λ h. let r = any-some p n h in (r .0, omega (arith, r .1), r .2))
     (λ h g. (n, omega arith, g))
->>>>>>> 6f65fc63f419544c5e08f0d337e178afcb351f81
