@@ -1,10 +1,10 @@
 -- The numbers of a task after the release and after the run. Assumes nothing.
 use Prim.Native.Nat.{ℕ, _-_, _≤_, _<_}
-use mathlib.Core.Path.{_≡_, refl, sym, ap, _∙_}
-use mathlib.Core.Bool.{Bool, true, false}
+use mathlib.Core.Path.{_≡_, ap, _∙_}
+use mathlib.Core.Bool.{true, false}
 use native.Mathlib.Omega.{arith}
 use lib.ListN.{getD}
-use Rattle.tasks.specs.Lists.{eight, pick}
+use Rattle.tasks.specs.Lists.{pick}
 use Rattle.tasks.specs.Tick.{bit, releasedAt, released, runs, chosen, ranAt, fallen, ran, after}
 use Rattle.tasks.specs.declared.state.State.{State}
 use Rattle.tasks.specs.declared.table.Table.{Table}

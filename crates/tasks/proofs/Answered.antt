@@ -1,7 +1,7 @@
 -- The answer of a tick, case by case. Assumes nothing.
 use Prim.Native.Nat.{ℕ, _≤_, _<_}
 use mathlib.Core.Path.{_≡_, refl, sym, ap, _∙_}
-use mathlib.Core.Bool.{Bool, true, false}
+use mathlib.Core.Bool.{true, false}
 use native.Mathlib.Omega.{arith}
 use lib.Dec.{ltb}
 use borrow.Author.Tests.{ltb-true, ltb-false, lt-ltb, le-ltb}
@@ -13,7 +13,6 @@ use Rattle.tasks.specs.declared.state.State.{State}
 use Rattle.tasks.specs.declared.table.Table.{Table}
 use Rattle.tasks.specs.declared.tick.TickAnswer.{TickAnswer}
 use Rattle.tasks.specs.declared.tick.TickAnswer.the-variants.{Next, Missed, Refused}
-use Rattle.tasks.specs.declared.tick.Ticked.{Ticked}
 use Rattle.tasks.proofs.Bools.{by-bool}
 use Rattle.tasks.proofs.Picks.{pick-yes, pick-no}
 use Rattle.tasks.proofs.Tables.{pick-zero}

@@ -1,7 +1,7 @@
 -- Counts and searches over the numbers below n: how two of them compare. Assumes nothing.
 use Prim.Native.Nat.{ℕ, zero, suc, _+_, _≤_, _<_}
-use mathlib.Core.Path.{_≡_, refl, sym, ap, _∙_}
-use mathlib.Core.Bool.{Bool, true, false, _||_}
+use mathlib.Core.Path.{_≡_, refl}
+use mathlib.Core.Bool.{Bool, true, false}
 use native.Mathlib.Omega.{arith}
 use native.Mathlib.Decide.{ℕ-discrete}
 use Rattle.tasks.specs.Lists.{pick, count, any}
@@ -54,6 +54,12 @@ pub count-same : (p q : ℕ → Bool) (n : ℕ) → ((k : ℕ) → k < n → p k
 unfolding count
 count-same p q zero f = refl
 count-same p q (suc n) f = rw (count-same p q n (λ k h. f k (omega arith)), f n (omega arith))
+
+-- where no number passes, the count is 0
+pub count-zero : (p : ℕ → Bool) (n : ℕ) → ((k : ℕ) → k < n → p k ≡ false) → count n p ≡ 0
+unfolding count
+count-zero p zero f = refl
+count-zero p (suc n) f = rw (count-zero p n (λ k h. f k (omega arith)), f n (omega arith))
 
 -- where no number passes, k does not
 pub any-false : (p : ℕ → Bool) (n k : ℕ) → any n p ≡ false → k < n → p k ≡ false

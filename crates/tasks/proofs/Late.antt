@@ -1,23 +1,22 @@
 -- When a job is late after a tick. Assumes nothing.
-use Prim.Native.Nat.{ℕ, zero, suc, _+_, _-_, _≤_, _<_}
-use mathlib.Core.Path.{_≡_, refl, sym, ap, _∙_}
-use mathlib.Core.Bool.{Bool, true, false, _&&_, _||_}
+use Prim.Native.Nat.{ℕ, _+_, _≤_, _<_}
+use mathlib.Core.Path.{_≡_, sym, ap, _∙_}
+use mathlib.Core.Bool.{true, false, _&&_}
 use native.Mathlib.Omega.{arith}
 use lib.Dec.{ltb}
 use lib.ListN.{getD}
-use lib.IntN.{ℤ, negsuc, subℕ}
-use borrow.Author.Tests.{ltb-true, ltb-false, lt-ltb, le-ltb}
-use Rattle.tasks.specs.Lists.{pick, count, any}
+use lib.IntN.{negsuc}
+use borrow.Author.Tests.{ltb-true, ltb-false, lt-ltb}
 use Rattle.tasks.specs.Table.{tableFault}
-use Rattle.tasks.specs.State.{slackAt, ready, keeps, late, improperAt, improper}
+use Rattle.tasks.specs.State.{slackAt, ready, late, improper}
 use Rattle.tasks.specs.Tick.{bit, released, runs, after}
 use Rattle.tasks.specs.declared.state.State.{State}
 use Rattle.tasks.specs.declared.table.Table.{Table}
 use Rattle.tasks.proofs.Bools.{by-bool, clash, and-left, and-right, both}
 use Rattle.tasks.proofs.Signed.{sub-lt, slack-sub, slack-late}
-use Rattle.tasks.proofs.Tables.{Ordered, ordered}
+use Rattle.tasks.proofs.Tables.{ordered}
 use Rattle.tasks.proofs.After.{work-on, work-off, gap-on, gap-off, work-ran, work-waited, gap-after}
-use Rattle.tasks.proofs.Proper.{Fine, proper-task}
+use Rattle.tasks.proofs.Proper.{proper-task}
 
 -- ---- the slack in natural numbers
 

@@ -19,5 +19,6 @@ pub mod Place
 pub mod After
 pub mod Proper
 pub mod Late
+pub mod More
 pub mod Answered
 pub mod Played

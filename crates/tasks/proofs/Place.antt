@@ -1,22 +1,20 @@
 -- The order of the places is the order of the jobs. Assumes nothing.
-use Prim.Native.Nat.{ℕ, zero, suc, _+_, _-_, _*_, _≤_, _<_}
-use mathlib.Core.Path.{_≡_, refl, sym, ap, ap₂, _∙_}
+use Prim.Native.Nat.{ℕ, suc, _+_, _-_, _*_, _≤_, _<_}
+use mathlib.Core.Path.{_≡_, refl, ap, ap₂, _∙_}
 use mathlib.Core.List.{List}
-use mathlib.Core.Bool.{Bool, true, false, not, _&&_, _||_}
+use mathlib.Core.Bool.{true, false, not, _&&_, _||_}
 use native.Mathlib.Omega.{arith}
 use native.Mathlib.Nat.{mul-le-mul-right}
-use native.Mathlib.Decide.{ℕ-discrete}
 use lib.Dec.{ltb, eqb}
 use lib.ListN.{getD}
-use lib.IntN.{ℤ, pos}
 use lib.Signed.{ltZ}
 use mir.Syntax.{w8, w16}
 use mir.Val.{Fits, boolByte}
-use borrow.Author.Tests.{lt-ltb, le-ltb, eq-eqb, ne-eqb}
-use Rattle.tasks.specs.Lists.{eight, pick, count}
-use Rattle.tasks.specs.State.{timeLeft, timeLeftAt, ready, keeps}
-use Rattle.tasks.specs.Tick.{lex, key, before, ahead, runs, chosen}
-use Rattle.tasks.specs.Places.{shifted, packed, shiftedAt, place, under, rank, taken}
+use borrow.Author.Tests.{lt-ltb, le-ltb, ne-eqb}
+use Rattle.tasks.specs.Lists.{eight, count}
+use Rattle.tasks.specs.State.{ready, keeps}
+use Rattle.tasks.specs.Tick.{key, before, ahead, runs, chosen}
+use Rattle.tasks.specs.Places.{shiftedAt, place, under, rank, taken}
 use Rattle.tasks.specs.declared.state.State.{State}
 use Rattle.tasks.specs.declared.table.Table.{Table}
 use Rattle.tasks.proofs.Fill.{eight-at}

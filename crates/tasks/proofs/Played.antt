@@ -1,7 +1,9 @@
 -- The play of a list, one mask a turn, and the ticks that its answers name. Assumes nothing.
-use Prim.Native.Nat.{ℕ, zero, suc, _+_, _≤_, _<_}
+use Prim.Native.Nat.{ℕ, _+_, _≤_, _<_}
 use mathlib.Core.Path.{_≡_, refl, sym, ap, _∙_}
 use mathlib.Core.List.{List, [], _∷_}
+use mathlib.Core.Bool.{false}
+use mathlib.Core.Logic.{_⊎_, inl, inr}
 use native.Mathlib.Omega.{arith}
 use native.Mathlib.Numerals.{add-one}
 use lib.Dec.{ltb}
@@ -9,22 +11,28 @@ use lib.ListN.{length, drop, getD, drop-of-length-le}
 use lib.Seq.{drop-cons}
 use borrow.Author.Tests.{lt-ltb, le-ltb}
 use Rattle.tasks.specs.Table.{tableFault}
-use Rattle.tasks.specs.State.{start}
-use Rattle.tasks.specs.Tick.{ticked}
+use Rattle.tasks.specs.State.{start, improper}
+use Rattle.tasks.specs.Tick.{illegal, after, missed, tickNumber, ticked}
 use Rattle.tasks.specs.Replay.{next, played, replayed, outcomeTick, replayNumber, replayTick}
 use Rattle.tasks.specs.declared.state.State.{State}
 use Rattle.tasks.specs.declared.table.Table.{Table}
 use Rattle.tasks.specs.declared.tick.TickAnswer.{TickAnswer}
 use Rattle.tasks.specs.declared.tick.TickAnswer.the-variants as Tick
 use Rattle.tasks.specs.declared.tick.Ticked.{Ticked}
-use Rattle.tasks.specs.declared.play.Outcome.the-variants.{Kept, Missed}
+use Rattle.tasks.specs.declared.play.Outcome.the-variants.{Kept}
 use Rattle.tasks.specs.declared.play.ReplayAnswer.the-variants.{Played, Refused}
 use Rattle.tasks.specs.declared.play.Replayed.{Replayed}
 use Rattle.tasks.proofs.Bools.{by-bool}
 use Rattle.tasks.proofs.Picks.{pick-yes, pick-no}
+use Rattle.tasks.proofs.Proper.{start-proper}
+use Rattle.tasks.proofs.Answered.{ticked-legal, ticked-illegal, ticked-proper}
 
 drop-step : (l : List ℕ) (i : ℕ) → i < length l → drop i l ≡ getD l i 0 ∷ drop (i + 1) l
 drop-step l i h = drop-cons l i 0 h ∙ ap (λ n. getD l i 0 ∷ drop n l) (sym (add-one i))
+
+-- no refusal, or 11
+Number : Replayed → Type 0
+Number r = (replayNumber (r .answer) ≡ 0) ⊎ (replayNumber (r .answer) ≡ 11)
 
 module _ (t : Table) where
   -- one tick of the play, from what the tick returned
@@ -74,3 +82,34 @@ module _ (t : Table) where
 
   pub replay-names : (l : List ℕ) {r : Replayed} → r ≡ replayed t l → (r ≡ replayed t l) × (replayTick (r .answer) ≤ length l)
   replay-names l e = (e, rw e (replayed-tick l))
+
+  -- ---- the refusals of a play
+
+  next-number :
+      (k : ℕ) (s s′ : State) (r : Replayed) (a : TickAnswer) → (tickNumber a ≡ 0) ⊎ (tickNumber a ≡ 11) → (a ≡ Tick.Next → Number r)
+      → Number (next k s s′ r a)
+  unfolding Number replayNumber tickNumber
+  next-number k s s′ r Tick.Next h e = e refl
+  next-number k s s′ r Tick.Missed h e = inl refl
+  next-number k s s′ r (Tick.Refused number) h e = h
+
+  module _ (valid : tableFault t ≡ 0) where
+    tick-number : (s : State) (mask : ℕ) → improper t s ≡ false → (tickNumber (ticked t s mask .answer) ≡ 0) ⊎ (tickNumber (ticked t s mask .answer) ≡ 11)
+    unfolding tickNumber
+    tick-number s mask proper =
+        by-bool (illegal t s mask)
+        (λ e. inr (rw (ticked-illegal t s mask valid proper e)))
+        (λ e. inl (rw (ticked-legal t s mask valid proper e) (by-bool (missed t (after t s mask)) (λ m. rw m) (λ m. rw m))))
+
+    played-number : (s : State) (k : ℕ) (l : List ℕ) → improper t s ≡ false → Number (played t s k l)
+    unfolding played Number replayNumber
+    played-number s k [] proper = inl refl
+    played-number s k (mask ∷ masks) proper =
+        let s′ = ticked t s mask .state in
+        next-number (k + 1) s s′ (played t s′ (k + 1) masks) (ticked t s mask .answer) (tick-number s mask proper)
+        (λ e. played-number s′ (k + 1) masks (ticked-proper t s mask e))
+
+    -- LAW: with a valid table a replay is refused with 11 or not at all
+    pub replayed-number : (l : List ℕ) → (replayNumber (replayed t l .answer) ≡ 0) ⊎ (replayNumber (replayed t l .answer) ≡ 11)
+    unfolding Number
+    replayed-number l = rw (sym (replayed-played l (omega arith))) (played-number start 0 l (start-proper t))

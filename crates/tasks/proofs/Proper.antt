@@ -1,18 +1,19 @@
 -- Proper states: what they say of each task, how many tasks run from one, and that a tick leaves one. Assumes nothing.
 use Prim.Native.Nat.{ℕ, _≤_, _<_}
-use mathlib.Core.Path.{_≡_, refl, sym, ap, _∙_}
-use mathlib.Core.Bool.{Bool, true, false, _&&_, _||_}
+use mathlib.Core.Path.{_≡_}
+use mathlib.Core.Bool.{true, false, _&&_, _||_}
 use native.Mathlib.Omega.{arith}
 use lib.Dec.{ltb, leb}
 use lib.ListN.{getD}
 use borrow.Author.Tests.{ltb-true, ltb-false, le-ltb, leb-true, le-leb}
 use Rattle.tasks.specs.Lists.{count, any}
-use Rattle.tasks.specs.State.{notPreempted, ready, started, keeps, late, improperAt, improper}
+use Rattle.tasks.specs.State.{start, notPreempted, started, keeps, late, improperAt, improper}
 use Rattle.tasks.specs.Tick.{bit, illegal, released, ahead, runs, missed, after}
 use Rattle.tasks.specs.declared.state.State.{State}
 use Rattle.tasks.specs.declared.table.Table.{Table}
 use Rattle.tasks.proofs.Bools.{by-bool, and-left, and-right, both, or-left, nor-left, nor-right}
-use Rattle.tasks.proofs.Counts.{count-mono, any-false, none-any}
+use Rattle.tasks.proofs.Counts.{count-mono, count-zero, any-false, none-any}
+use Rattle.tasks.proofs.Fill.{eight-at}
 use Rattle.tasks.proofs.Choice.{runs-fit}
 use Rattle.tasks.proofs.Legal.{legal-bit}
 use Rattle.tasks.proofs.After.{work-on, work-off, gap-on, gap-off, work-waited, work-falls, gap-after}
@@ -73,6 +74,37 @@ module _ (t : Table) (s : State) where
   unfolding improper
   is-proper f few =
       rw (none-any (improperAt t s) 8 (λ i h. not-improper t s i (f i h))) (le-ltb (t .m) (count 8 (keeps t s)) few)
+
+-- ---- the start state
+
+module _ (t : Table) (i : ℕ) (h : i < 8) where
+  start-work : getD (start .c) i 0 ≡ 0
+  start-work = eight-at 0 (λ k. 0) i h
+
+  start-gap : getD (start .p) i 0 ≡ 0
+  start-gap = eight-at 0 (λ k. 0) i h
+
+  start-late : late t start i ≡ false
+  unfolding late
+  start-late = rw start-work
+
+  start-free : keeps t start i ≡ false
+  unfolding keeps started
+  start-free = rw start-work (by-bool (notPreempted t) (λ e. rw e) (λ e. rw e))
+
+-- LAW: the start state is proper
+pub start-proper : (t : Table) → improper t start ≡ false
+start-proper t =
+    is-proper t start
+    (λ i h. record {
+      work = omega (arith, start-work t i h);
+      gap = omega (arith, start-gap t i h);
+      kept = start-late t i h;
+      past = λ q. (start-work t i h, start-gap t i h);
+    })
+    (omega (arith, count-zero (keeps t start) 8 (start-free t)))
+
+-- ---- a tick
 
 module _ (t : Table) (s : State) (mask : ℕ) where
   -- a job that keeps its processor after the release did so before it

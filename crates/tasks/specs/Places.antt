@@ -2,7 +2,7 @@
 -- the private functions of src/places.rt cite it, and proofs/Place.antt shows that it gives the choice of Tick.antt.
 use Prim.Native.Nat.{ℕ, _+_, _-_, _*_}
 use mathlib.Core.List.{List}
-use mathlib.Core.Bool.{Bool, true, false, _&&_, _||_}
+use mathlib.Core.Bool.{Bool, _&&_, _||_}
 use lib.ListN.{getD}
 use lib.Dec.{ltb, eqb}
 use Rattle.tasks.specs.Lists.{pick, count}

@@ -1,6 +1,6 @@
 -- The state and when it is proper (document 01, "State"); its table is that of "The task table".
 use Prim.Native.Nat.{ℕ}
-use mathlib.Core.Bool.{Bool, true, false, _&&_, _||_}
+use mathlib.Core.Bool.{Bool, _&&_, _||_}
 use lib.ListN.{getD}
 use lib.Dec.{eqb, ltb, leb}
 use lib.IntN.{ℤ, pos, _-ℤ_}

@@ -7,8 +7,6 @@ use native.Mathlib.Omega.{arith}
 use borrow.Author.Needs.{needs}
 use Rattle.tasks.proofs.places.count_place.Statement.{statement}
 use Rattle.tasks.proofs.places.count_place.Tie as tie
-use Rattle.tasks.proofs.places.count_place.Reads as reads
-use Rattle.tasks.proofs.places.count_place.Lts as lts
 
 abbrev Inv-loop : tie.InvT-loop
 Inv-loop i ranks places y out₀ j₀ out j = (j ≤ 8) × Filled 0 (rank places (i + 1)) out j

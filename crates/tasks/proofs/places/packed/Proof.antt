@@ -1,9 +1,6 @@
-use native.Mathlib.Omega.{arith}
 use borrow.Author.Needs.{needs}
 use Rattle.tasks.proofs.places.packed.Statement.{statement}
 use Rattle.tasks.proofs.places.packed.Tie as tie
-use Rattle.tasks.proofs.places.packed.Reads as reads
-use Rattle.tasks.proofs.places.packed.Lts as lts
 
 returns : tie.Need-returns
 returns c = search needs

@@ -8,9 +8,6 @@ use native.Mathlib.Omega.{arith}
 use borrow.Author.Needs.{needs}
 use Rattle.tasks.proofs.places.ranks.Statement.{statement}
 use Rattle.tasks.proofs.places.ranks.Tie as tie
-use Rattle.tasks.proofs.places.ranks.Reads as reads
-use Rattle.tasks.proofs.places.ranks.Lts as lts
-use Rattle.tasks.proofs.places.count_place.Reads as count-place-reads
 
 abbrev Inv-loop : tie.InvT-loop
 Inv-loop places ranks₀ i₀ ranks i = (i ≤ 8) × (ranks ≡ eight (rank places i))

@@ -1,11 +1,7 @@
-use mathlib.Core.Path.{refl}
 use native.Mathlib.Omega.{arith}
 use borrow.Author.Needs.{needs}
 use Rattle.tasks.proofs.places.shifted.Statement.{statement}
 use Rattle.tasks.proofs.places.shifted.Tie as tie
-use Rattle.tasks.proofs.places.shifted.Reads as reads
-use Rattle.tasks.proofs.places.shifted.Lts as lts
-use Rattle.tasks.proofs.places.wide.Reads as wide-reads
 
 returns : tie.Need-returns
 returns c = search needs

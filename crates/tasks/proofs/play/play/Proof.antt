@@ -8,10 +8,6 @@ use native.Mathlib.Omega.{arith}
 use borrow.Author.Needs.{needs}
 use Rattle.tasks.proofs.play.play.Statement.{statement}
 use Rattle.tasks.proofs.play.play.Tie as tie
-use Rattle.tasks.proofs.play.play.Reads as reads
-use Rattle.tasks.proofs.play.play.Lts as lts
-use Rattle.tasks.proofs.state.State.start.Reads as start-reads
-use Rattle.tasks.proofs.state.State.tick.Reads as tick-reads
 
 abbrev Inv-loop : tie.InvT-loop
 Inv-loop t masks s₀ i₀ s i = (i ≤ length masks) × (played t start 0 masks ≡ played t s i (drop i masks))

@@ -1,14 +1,8 @@
 use mathlib.Core.Path.{_∙_}
 use Rattle.tasks.proofs.Played.{replay-names, replayed-refused, replayed-played}
-use native.Mathlib.Omega.{arith}
 use borrow.Author.Needs.{needs}
 use Rattle.tasks.proofs.play.replay.Statement.{statement}
 use Rattle.tasks.proofs.play.replay.Tie as tie
-use Rattle.tasks.proofs.play.replay.Reads as reads
-use Rattle.tasks.proofs.play.replay.Lts as lts
-use Rattle.tasks.proofs.play.play.Reads as play-reads
-use Rattle.tasks.proofs.state.State.start.Reads as start-reads
-use Rattle.tasks.proofs.table.Table.fault.Reads as fault-reads
 
 fault-requires : tie.Need-fault-requires
 fault-requires c κs = search needs

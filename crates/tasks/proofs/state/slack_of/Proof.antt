@@ -1,13 +1,9 @@
-use native.Mathlib.Omega.{arith}
 use mir.Syntax.{w16}
 use mir.ValLaws.{toZ-ofZ}
-use Rattle.tasks.proofs.Signed.{back, byte, time-left-fits, slack-fits}
+use Rattle.tasks.proofs.Signed.{back, byte, slack-fits}
 use borrow.Author.Needs.{needs}
 use Rattle.tasks.proofs.state.slack_of.Statement.{statement}
 use Rattle.tasks.proofs.state.slack_of.Tie as tie
-use Rattle.tasks.proofs.state.slack_of.Reads as reads
-use Rattle.tasks.proofs.state.slack_of.Lts as lts
-use Rattle.tasks.proofs.state.time_left.Reads as time-left-reads
 
 time-left-requires : tie.Need-time-left-requires
 time-left-requires c κs = search needs

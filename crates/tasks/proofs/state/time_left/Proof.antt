@@ -1,12 +1,9 @@
-use native.Mathlib.Omega.{arith}
 use mir.Syntax.{w16}
 use mir.ValLaws.{toZ-ofZ}
 use Rattle.tasks.proofs.Signed.{byte, bytes-fit, time-left-fits}
 use borrow.Author.Needs.{needs}
 use Rattle.tasks.proofs.state.time_left.Statement.{statement}
 use Rattle.tasks.proofs.state.time_left.Tie as tie
-use Rattle.tasks.proofs.state.time_left.Reads as reads
-use Rattle.tasks.proofs.state.time_left.Lts as lts
 
 cast-result : tie.Need-cast-result
 cast-result c = search needs

@@ -1,13 +1,7 @@
 use Rattle.tasks.specs.Tick.{after}
-use native.Mathlib.Omega.{arith}
 use borrow.Author.Needs.{needs}
 use Rattle.tasks.proofs.state.State.advance.Statement.{statement}
 use Rattle.tasks.proofs.state.State.advance.Tie as tie
-use Rattle.tasks.proofs.state.State.advance.Reads as reads
-use Rattle.tasks.proofs.state.State.advance.Lts as lts
-use Rattle.tasks.proofs.state.State.choose.Reads as choose-reads
-use Rattle.tasks.proofs.state.State.release.Reads as release-reads
-use Rattle.tasks.proofs.state.State.run.Reads as run-reads
 
 release-requires : tie.Need-release-requires
 release-requires c κs = search needs

@@ -7,9 +7,6 @@ use Rattle.tasks.proofs.Turns.{any-none, any-turn, any-end}
 use borrow.Author.Needs.{needs}
 use Rattle.tasks.proofs.state.State.any_improper.Statement.{statement}
 use Rattle.tasks.proofs.state.State.any_improper.Tie as tie
-use Rattle.tasks.proofs.state.State.any_improper.Reads as reads
-use Rattle.tasks.proofs.state.State.any_improper.Lts as lts
-use Rattle.tasks.proofs.state.State.improper_at.Reads as improper-at-reads
 
 abbrev Inv-loop : tie.InvT-loop
 Inv-loop self t found₀ i₀ found i = (i ≤ 8) × (found ≡ any i (improperAt t self))

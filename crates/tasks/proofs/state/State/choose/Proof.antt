@@ -9,11 +9,6 @@ use native.Mathlib.Omega.{arith}
 use borrow.Author.Needs.{needs}
 use Rattle.tasks.proofs.state.State.choose.Statement.{statement}
 use Rattle.tasks.proofs.state.State.choose.Tie as tie
-use Rattle.tasks.proofs.state.State.choose.Reads as reads
-use Rattle.tasks.proofs.state.State.choose.Lts as lts
-use Rattle.tasks.proofs.places.ranks.Reads as ranks-reads
-use Rattle.tasks.proofs.places.wide.Reads as wide-reads
-use Rattle.tasks.proofs.state.State.places.Reads as places-reads
 
 abbrev Inv-loop : tie.InvT-loop
 Inv-loop places ranks m run₀ i₀ run i = (i ≤ 8) × (ranks ≡ eight (rank places 8)) × Filled false (taken places m) run i

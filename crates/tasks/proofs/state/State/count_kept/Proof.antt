@@ -7,9 +7,6 @@ use Rattle.tasks.proofs.Turns.{count-none, count-turn, count-end, count
 use borrow.Author.Needs.{needs}
 use Rattle.tasks.proofs.state.State.count_kept.Statement.{statement}
 use Rattle.tasks.proofs.state.State.count_kept.Tie as tie
-use Rattle.tasks.proofs.state.State.count_kept.Reads as reads
-use Rattle.tasks.proofs.state.State.count_kept.Lts as lts
-use Rattle.tasks.proofs.state.State.keeps.Reads as keeps-reads
 
 abbrev Inv-loop : tie.InvT-loop
 Inv-loop self t n₀ i₀ n i = (i ≤ 8) × (n ≡ count i (keeps t self))

@@ -7,9 +7,6 @@ use Rattle.tasks.proofs.Turns.{any-none, any-turn, any-end}
 use borrow.Author.Needs.{needs}
 use Rattle.tasks.proofs.state.State.illegal.Statement.{statement}
 use Rattle.tasks.proofs.state.State.illegal.Tie as tie
-use Rattle.tasks.proofs.state.State.illegal.Reads as reads
-use Rattle.tasks.proofs.state.State.illegal.Lts as lts
-use Rattle.tasks.proofs.state.State.illegal_at.Reads as illegal-at-reads
 
 abbrev Inv-loop : tie.InvT-loop
 Inv-loop self t mask found₀ i₀ found i = (i ≤ 8) × (found ≡ any i (illegalAt t self mask))

@@ -1,11 +1,7 @@
-use native.Mathlib.Omega.{arith}
 use Rattle.tasks.specs.Tick.{illegalAt}
 use borrow.Author.Needs.{needs}
 use Rattle.tasks.proofs.state.State.illegal_at.Statement.{statement}
 use Rattle.tasks.proofs.state.State.illegal_at.Tie as tie
-use Rattle.tasks.proofs.state.State.illegal_at.Reads as reads
-use Rattle.tasks.proofs.state.State.illegal_at.Lts as lts
-use Rattle.tasks.proofs.state.has_bit.Reads as has-bit-reads
 
 element-copy-out-p : tie.Need-element-copy-out-p
 element-copy-out-p c = search needs

@@ -1,12 +1,7 @@
-use native.Mathlib.Omega.{arith}
 use Rattle.tasks.specs.State.{improper}
 use borrow.Author.Needs.{needs}
 use Rattle.tasks.proofs.state.State.improper.Statement.{statement}
 use Rattle.tasks.proofs.state.State.improper.Tie as tie
-use Rattle.tasks.proofs.state.State.improper.Reads as reads
-use Rattle.tasks.proofs.state.State.improper.Lts as lts
-use Rattle.tasks.proofs.state.State.any_improper.Reads as any-improper-reads
-use Rattle.tasks.proofs.state.State.count_kept.Reads as count-kept-reads
 
 any-improper-requires : tie.Need-any-improper-requires
 any-improper-requires c κs = search needs

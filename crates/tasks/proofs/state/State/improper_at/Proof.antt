@@ -1,11 +1,7 @@
-use native.Mathlib.Omega.{arith}
 use Rattle.tasks.specs.State.{improperAt}
 use borrow.Author.Needs.{needs}
 use Rattle.tasks.proofs.state.State.improper_at.Statement.{statement}
 use Rattle.tasks.proofs.state.State.improper_at.Tie as tie
-use Rattle.tasks.proofs.state.State.improper_at.Reads as reads
-use Rattle.tasks.proofs.state.State.improper_at.Lts as lts
-use Rattle.tasks.proofs.state.State.late.Reads as late-reads
 
 element-copy-out-c : tie.Need-element-copy-out-c
 element-copy-out-c c = search needs

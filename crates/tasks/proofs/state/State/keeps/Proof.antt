@@ -1,11 +1,7 @@
-use native.Mathlib.Omega.{arith}
 use Rattle.tasks.specs.State.{keeps}
 use borrow.Author.Needs.{needs}
 use Rattle.tasks.proofs.state.State.keeps.Statement.{statement}
 use Rattle.tasks.proofs.state.State.keeps.Tie as tie
-use Rattle.tasks.proofs.state.State.keeps.Reads as reads
-use Rattle.tasks.proofs.state.State.keeps.Lts as lts
-use Rattle.tasks.proofs.state.State.started.Reads as started-reads
 
 started-requires : tie.Need-started-requires
 started-requires c κs = search needs

@@ -1,12 +1,8 @@
-use native.Mathlib.Omega.{arith}
 use Rattle.tasks.specs.State.{late}
 use borrow.Author.Needs.{needs}
 use Rattle.tasks.proofs.Signed.{back}
 use Rattle.tasks.proofs.state.State.late.Statement.{statement}
 use Rattle.tasks.proofs.state.State.late.Tie as tie
-use Rattle.tasks.proofs.state.State.late.Reads as reads
-use Rattle.tasks.proofs.state.State.late.Lts as lts
-use Rattle.tasks.proofs.state.slack_of.Reads as slack-of-reads
 
 element-copy-out-c : tie.Need-element-copy-out-c
 element-copy-out-c c = search needs

@@ -1,6 +1,6 @@
 use native.Mathlib.Omega.{arith}
-use Prim.Native.Nat.{_≤_, _-_, _+_}
-use mathlib.Core.Path.{_≡_, refl, sym, ap, _∙_}
+use Prim.Native.Nat.{_≤_, _-_}
+use mathlib.Core.Path.{_≡_}
 use Rattle.tasks.specs.Lists.{any}
 use Rattle.tasks.specs.State.{late}
 use Rattle.tasks.specs.Tick.{missed}
@@ -8,9 +8,6 @@ use Rattle.tasks.proofs.Turns.{any-none, any-turn, any-end}
 use borrow.Author.Needs.{needs}
 use Rattle.tasks.proofs.state.State.missed.Statement.{statement}
 use Rattle.tasks.proofs.state.State.missed.Tie as tie
-use Rattle.tasks.proofs.state.State.missed.Reads as reads
-use Rattle.tasks.proofs.state.State.missed.Lts as lts
-use Rattle.tasks.proofs.state.State.late.Reads as late-reads
 
 abbrev Inv-loop : tie.InvT-loop
 Inv-loop self t found₀ i₀ found i = (i ≤ 8) × (found ≡ any i (late t self))

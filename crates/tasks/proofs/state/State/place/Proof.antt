@@ -1,14 +1,7 @@
-use mathlib.Core.Path.{refl}
 use Rattle.tasks.specs.Places.{place, shiftedAt}
-use native.Mathlib.Omega.{arith}
 use borrow.Author.Needs.{needs}
 use Rattle.tasks.proofs.state.State.place.Statement.{statement}
 use Rattle.tasks.proofs.state.State.place.Tie as tie
-use Rattle.tasks.proofs.state.State.place.Reads as reads
-use Rattle.tasks.proofs.state.State.place.Lts as lts
-use Rattle.tasks.proofs.state.State.keeps.Reads as keeps-reads
-use Rattle.tasks.proofs.places.packed.Reads as packed-reads
-use Rattle.tasks.proofs.places.shifted.Reads as shifted-reads
 
 element-copy-out-c : tie.Need-element-copy-out-c
 element-copy-out-c c = search needs

@@ -1,14 +1,11 @@
 use native.Mathlib.Omega.{arith}
-use Prim.Native.Nat.{_≤_, _-_, _+_}
-use mathlib.Core.Path.{_≡_, refl, sym, ap, _∙_}
+use Prim.Native.Nat.{_≤_, _-_}
+use mathlib.Core.Path.{refl}
 use Rattle.tasks.specs.Places.{place}
 use Rattle.tasks.proofs.Fill.{Filled, filled-start, filled-store, filled-end}
 use borrow.Author.Needs.{needs}
 use Rattle.tasks.proofs.state.State.places.Statement.{statement}
 use Rattle.tasks.proofs.state.State.places.Tie as tie
-use Rattle.tasks.proofs.state.State.places.Reads as reads
-use Rattle.tasks.proofs.state.State.places.Lts as lts
-use Rattle.tasks.proofs.state.State.place.Reads as place-reads
 
 abbrev Inv-loop : tie.InvT-loop
 Inv-loop self t places₀ i₀ places i = (i ≤ 8) × Filled 0 (place t self) places i

@@ -1,16 +1,10 @@
-use native.Mathlib.Omega.{arith}
 use Rattle.tasks.proofs.Picks.{pick-yes, pick-no}
-use mathlib.Core.Path.{sym, _∙_, refl, ap, subst}
+use mathlib.Core.Path.{sym, _∙_, refl}
 use borrow.Author.Tests.{lt-ltb, le-ltb}
 use Rattle.tasks.specs.Tick.{refusal}
 use borrow.Author.Needs.{needs}
 use Rattle.tasks.proofs.state.State.refusal.Statement.{statement}
 use Rattle.tasks.proofs.state.State.refusal.Tie as tie
-use Rattle.tasks.proofs.state.State.refusal.Reads as reads
-use Rattle.tasks.proofs.state.State.refusal.Lts as lts
-use Rattle.tasks.proofs.state.State.illegal.Reads as illegal-reads
-use Rattle.tasks.proofs.state.State.improper.Reads as improper-reads
-use Rattle.tasks.proofs.table.Table.fault.Reads as fault-reads
 
 fault-requires : tie.Need-fault-requires
 fault-requires c κs = search needs

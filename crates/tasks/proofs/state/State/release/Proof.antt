@@ -6,10 +6,6 @@ use Rattle.tasks.specs.Tick.{releasedAt, released}
 use borrow.Author.Needs.{needs}
 use Rattle.tasks.proofs.state.State.release.Statement.{statement}
 use Rattle.tasks.proofs.state.State.release.Tie as tie
-use Rattle.tasks.proofs.state.State.release.Reads as reads
-use Rattle.tasks.proofs.state.State.release.Lts as lts
-use Rattle.tasks.proofs.state.either.Reads as either-reads
-use Rattle.tasks.proofs.state.has_bit.Reads as has-bit-reads
 
 abbrev Inv-loop : tie.InvT-loop
 Inv-loop mask self t c₀ p₀ i₀ c p i =

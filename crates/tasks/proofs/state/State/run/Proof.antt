@@ -1,15 +1,11 @@
 use native.Mathlib.Omega.{arith}
-use Prim.Native.Nat.{_≤_, _-_, _+_}
-use mathlib.Core.Path.{_≡_, refl, sym, ap, _∙_}
+use Prim.Native.Nat.{_≤_, _-_}
+use mathlib.Core.Path.{refl}
 use Rattle.tasks.specs.Tick.{ranAt, fallen, ran}
 use Rattle.tasks.proofs.Fill.{Filled, filled-start, filled-store, filled-end}
 use borrow.Author.Needs.{needs}
 use Rattle.tasks.proofs.state.State.run.Statement.{statement}
 use Rattle.tasks.proofs.state.State.run.Tie as tie
-use Rattle.tasks.proofs.state.State.run.Reads as reads
-use Rattle.tasks.proofs.state.State.run.Lts as lts
-use Rattle.tasks.proofs.state.down.Reads as down-reads
-use Rattle.tasks.proofs.state.either.Reads as either-reads
 
 abbrev Inv-loop : tie.InvT-loop
 Inv-loop self run c₀ p₀ i₀ c p i = (i ≤ 8) × Filled 0 (ranAt (self .c) run) c i × Filled 0 (fallen (self .p)) p i

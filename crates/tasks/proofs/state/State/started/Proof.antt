@@ -1,11 +1,8 @@
-use native.Mathlib.Omega.{arith}
 use mathlib.Core.Path.{refl}
 use Rattle.tasks.specs.State.{started}
 use borrow.Author.Needs.{needs}
 use Rattle.tasks.proofs.state.State.started.Statement.{statement}
 use Rattle.tasks.proofs.state.State.started.Tie as tie
-use Rattle.tasks.proofs.state.State.started.Reads as reads
-use Rattle.tasks.proofs.state.State.started.Lts as lts
 
 element-copy-out-c : tie.Need-element-copy-out-c
 element-copy-out-c c = search needs

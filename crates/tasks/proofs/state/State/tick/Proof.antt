@@ -2,16 +2,9 @@ use Prim.Native.Nat.{_≤_}
 use mathlib.Core.Path.{refl, sym, _∙_}
 use Rattle.tasks.specs.Tick.{refusal}
 use Rattle.tasks.proofs.Answered.{ticked-refused, ticked-missed, ticked-next, number-refused, number-missed, number-next}
-use native.Mathlib.Omega.{arith}
 use borrow.Author.Needs.{needs}
 use Rattle.tasks.proofs.state.State.tick.Statement.{statement}
 use Rattle.tasks.proofs.state.State.tick.Tie as tie
-use Rattle.tasks.proofs.state.State.tick.Reads as reads
-use Rattle.tasks.proofs.state.State.tick.Lts as lts
-use Rattle.tasks.proofs.state.State.advance.Reads as advance-reads
-use Rattle.tasks.proofs.state.State.missed.Reads as missed-reads
-use Rattle.tasks.proofs.state.State.refusal.Reads as refusal-reads
-use Rattle.tasks.proofs.tick.answered.Reads as answered-reads
 
 -- nothing refused the tick
 passed : (c : tie.Else1) → refusal (c .before .before .args .t) (c .before .before .args .self) (c .before .before .args .mask) ≤ 0
