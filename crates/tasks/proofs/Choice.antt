@@ -16,11 +16,12 @@ use Rattle.tasks.proofs.Counts.{count-mono, count-but-one}
 use Rattle.tasks.proofs.Order.{Order, by-number, by-key, Last, last}
 
 module _ (t : Table) (s : State) where
+  -- LAW: the order of the jobs is strict and total, whatever the policy
   pub in-order : Order (before t s)
   unfolding before
   in-order = by-key (key t s) ltb by-number
 
-  -- runs, and did not keep a processor
+  -- task i runs, and its job kept no processor
   fresh : ℕ → Bool
   fresh i = runs t s i && not (keeps t s i)
 
@@ -48,6 +49,7 @@ module _ (t : Table) (s : State) where
   unfolding fresh
   is-fresh k e y = both e (not-yes y)
 
+  -- where at most m jobs keep a processor, at most m tasks run
   pub runs-fit : count 8 (keeps t s) ≤ t .m → count 8 (runs t s) ≤ t .m
   runs-fit few =
       ⊎-elim

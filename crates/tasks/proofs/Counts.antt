@@ -33,22 +33,6 @@ count-but-one p q x (suc n) f =
           (arith, count-but-one p q x n (λ k h. f k (omega arith)), pick-le (p n) (q n) (f n (omega arith) d))
     ]
 
--- q holds wherever p does, and at x besides
-pub count-less :
-    (p q : ℕ → Bool) (x n : ℕ) → x < n → p x ≡ false → q x ≡ true → ((k : ℕ) → k < n → p k ≡ true → q k ≡ true) → count n p < count n q
-unfolding count
-count-less p q x zero h e g f = absurd (omega arith)
-count-less p q x (suc n) h e g f =
-    elim (ℕ-discrete n x) [
-      | yes y ↦
-          let pe : p n ≡ false = rw y e in
-          let qe : q n ≡ true = rw y g in
-          rw (pe, qe) (omega (arith, count-mono p q n (λ k l. f k (omega arith))))
-      | no d ↦
-          omega
-          (arith, count-less p q x n (omega arith) e g (λ k l. f k (omega arith)), pick-le (p n) (q n) (f n (omega arith)))
-    ]
-
 -- p and q agree
 pub count-same : (p q : ℕ → Bool) (n : ℕ) → ((k : ℕ) → k < n → p k ≡ q k) → count n p ≡ count n q
 unfolding count

@@ -1,4 +1,5 @@
--- Laws that several proofs cite. Those that speak of the model for other layers are marked LAW.
+-- Laws that several proofs cite.
+-- Those that speak of the model for other layers are marked LAW.
 pub mod Bools
 pub mod Picks
 pub mod Turns

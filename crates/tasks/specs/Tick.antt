@@ -46,11 +46,12 @@ released t s mask =
 abbrev pub lex : ℤ → ℤ → Bool → Bool
 lex a b rest = ltZ a b || (not (ltZ b a) && rest)
 
--- by what the policy orders the jobs: fixed priority by nothing but the task's number, earliest deadline by the time left
+-- by what the policy orders the jobs: fixed priority by nothing but the task's number, earliest deadline by the time left;
+-- a further policy is one more test here
 unfoldable pub key : Table → State → ℕ → ℤ
 key t s i = pick (ltb (t .policy) 2) (pos 0) (timeLeftAt t s i)
 
--- the job of task j goes before that of task i: by key, then by task number
+-- the job of task j goes before that of task i: by key, then by task number; a further tie-break is one more `lex` here
 unfoldable pub before : Table → State → ℕ → ℕ → Bool
 before t s j i = lex (key t s j) (key t s i) (ltb j i)
 
