@@ -1,17 +1,45 @@
 -- The starred examples of document 01 ("Benchmark tables"), as entries of one list.
 use Prim.Native.Nat.{ℕ}
-use mathlib.Core.List.{List, [], _∷_}
+use mathlib.Core.List.{List, [], _∷_, map}
+use lib.ListN.{length, getD}
+use Rattle.tasks.specs.Lists.{eight}
 use Rattle.tasks.specs.Number.{numberAt}
+use Rattle.tasks.specs.Replay.{replayed, replayNumber, replayTick}
 use Rattle.tasks.specs.Answers.{numberAnswer}
+use Rattle.tasks.specs.declared.table.Table.{Table}
+
+-- (C, D, P) of a task
+pub record Task : Type 0 where
+  pub C : ℕ
+  pub D : ℕ
+  pub P : ℕ
+
+abbrev pub task : ℕ → ℕ → ℕ → Task
+task C D P = record { C = C; D = D; P = P }
+
+-- the table written policy/m: (C,D,P), ..
+abbrev pub table : ℕ → ℕ → List Task → Table
+table policy m tasks =
+    record {
+      policy = policy;
+      m = m;
+      n = length tasks;
+      work = eight (λ i. getD (map (λ (t : Task). t .C) tasks) i 0);
+      deadline = eight (λ i. getD (map (λ (t : Task). t .D) tasks) i 0);
+      gap = eight (λ i. getD (map (λ (t : Task). t .P) tasks) i 0);
+    }
 
 -- what an example asks
 pub data Question : Type 0 where
   -- the sheet number at the front of these bytes
   sheetNumber : List ℕ → Question
+  -- the replay of these masks: the refusal's number, and the tick of the miss
+  replay : Table → List ℕ → Question
 
 -- what the definitions answer, by the paper's number and values
 abbrev pub answer : Question → List ℕ
 answer (sheetNumber bytes) = numberAnswer (numberAt bytes 0)
+answer (replay t masks) = replayNumber (replayed t masks .answer) ∷ replayTick (replayed t masks .answer) ∷ []
 
 -- a question with the paper's answer
 pub record Example : Type 0 where
@@ -26,4 +54,6 @@ starred =
     ∷ record { asks = sheetNumber (0x80 ∷ 0x00 ∷ []); says = 2 ∷ [] }
     -- 80 and the end gives 1
     ∷ record { asks = sheetNumber (0x80 ∷ []); says = 1 ∷ [] }
+    -- 1/1: (2,2,2),(1,2,2): first miss at tick 2 under masks 3, 0
+    ∷ record { asks = replay (table 1 1 (task 2 2 2 ∷ task 1 2 2 ∷ [])) (3 ∷ 0 ∷ []); says = 0 ∷ 2 ∷ [] }
     ∷ []

@@ -15,7 +15,7 @@ use Rattle.tasks.specs.declared.tick.TickAnswer.{TickAnswer}
 use Rattle.tasks.specs.declared.tick.TickAnswer.the-variants.{Next, Missed, Refused}
 use Rattle.tasks.proofs.Bools.{by-bool}
 use Rattle.tasks.proofs.Picks.{pick-yes, pick-no}
-use Rattle.tasks.proofs.Valid.{pick-zero}
+use Rattle.tasks.proofs.Tables.{pick-zero}
 use Rattle.tasks.proofs.Proper.{proper-after}
 
 module _ (t : Table) (s : State) (mask : ℕ) where

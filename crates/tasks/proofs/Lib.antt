@@ -14,7 +14,6 @@ pub mod RoundTrip
 pub mod Again
 pub mod Order
 pub mod Signed
-pub mod Valid
 pub mod Legal
 pub mod Choice
 pub mod Place

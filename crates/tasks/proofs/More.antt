@@ -15,7 +15,7 @@ use Rattle.tasks.specs.declared.state.State.{State}
 use Rattle.tasks.specs.declared.table.Table.{Table}
 use Rattle.tasks.proofs.Bools.{by-bool, clash, and-left, and-right, both, or-left, or-right, or-cases}
 use Rattle.tasks.proofs.Counts.{count-mono, some-any, any-some}
-use Rattle.tasks.proofs.Valid.{ordered}
+use Rattle.tasks.proofs.Tables.{ordered}
 use Rattle.tasks.proofs.Legal.{legal-bit, bits-legal}
 use Rattle.tasks.proofs.After.{work-on, work-off, gap-on, gap-off, work-waited, gap-after}
 use Rattle.tasks.proofs.Proper.{proper-task}

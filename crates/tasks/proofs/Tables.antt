@@ -44,10 +44,15 @@ pub record Valid (t : Table) : Type 0 where
   pub each : (i : ℕ) → i < t .n → FitTask (getD (t .work) i 0) (getD (t .deadline) i 0) (getD (t .gap) i 0)
   pub rest : (i : ℕ) → t .n ≤ i → i < 8 → (getD (t .work) i 0 ≡ 0) × (getD (t .deadline) i 0 ≡ 0) × (getD (t .gap) i 0 ≡ 0)
 
--- the case that a chain of tests leaves
-left-over : (b : Bool) (k : ℕ) {x : ℕ} → 0 < k → pick b k x ≡ 0 → (b ≡ false) × (x ≡ 0)
-left-over true k h e = absurd (omega arith)
-left-over false k h e = (refl, e)
+-- C ≤ D ≤ P of task i
+pub record Ordered (t : Table) (i : ℕ) : Type 0 where
+  pub work : getD (t .work) i 0 ≤ getD (t .deadline) i 0
+  pub deadline : getD (t .deadline) i 0 ≤ getD (t .gap) i 0
+
+-- a refusal that is 0 was not picked
+pub pick-zero : (b : Bool) (k r : ℕ) → 0 < k → pick b k r ≡ 0 → (b ≡ false) × (r ≡ 0)
+pick-zero true k r h e = absurd (omega arith)
+pick-zero false k r h e = (refl, e)
 
 inside : (x : ℕ) → outside x ≡ false → (1 ≤ x) × (x ≤ 8)
 inside x e = (ltb-false x 1 (nor-left (ltb x 1) (ltb 8 x) e), ltb-false 8 x (nor-right (ltb x 1) (ltb 8 x) e))
@@ -74,10 +79,11 @@ module _ (t : Table) where
   pub valid : tableFault t ≡ 0 → Valid t
   unfolding tableFault
   valid e =
-      let a = left-over (ltb 3 (t .policy)) 4 (omega arith) e in
-      let b = left-over (outside (t .m)) 5 (omega arith) (a .1) in
-      let c = left-over (outside (t .n)) 6 (omega arith) (b .1) in
-      let d = left-over (any 8 (faultAt t)) 7 (omega arith) (c .1) in
+      let tasks : ℕ = pick (any 8 (faultAt t)) 7 0 in
+      let a = pick-zero (ltb 3 (t .policy)) 4 (pick (outside (t .m)) 5 (pick (outside (t .n)) 6 tasks)) (omega arith) e in
+      let b = pick-zero (outside (t .m)) 5 (pick (outside (t .n)) 6 tasks) (omega arith) (a .1) in
+      let c = pick-zero (outside (t .n)) 6 tasks (omega arith) (b .1) in
+      let d = pick-zero (any 8 (faultAt t)) 7 0 (omega arith) (c .1) in
       let n = inside (t .n) (c .0) in
       record {
         policy = ltb-false 3 (t .policy) (a .0);
@@ -102,3 +108,11 @@ module _ (t : Table) where
   not-refused v =
       rw
       (le-ltb 3 (t .policy) (v .policy), inside-no (t .m) (v .processors .0) (v .processors .1), inside-no (t .n) (v .tasks .0) (v .tasks .1), none-any (faultAt t) 8 (fault-none v))
+
+  -- C ≤ D ≤ P for every entry, also after the nth, where all are 0
+  pub ordered : tableFault t ≡ 0 → (i : ℕ) → i < 8 → Ordered t i
+  ordered e i h =
+      let v = valid e in
+      by-bool (ltb i (t .n))
+      (λ l. let f = v .each i (ltb-true i (t .n) l) in record { work = f .order; deadline = f .close })
+      (λ l. let z = v .rest i (ltb-false i (t .n) l) h in record { work = omega (arith, z .0); deadline = omega (arith, z .1) })

@@ -1,0 +1,67 @@
+// Runs outside vectors over the library: reads records from standard input and prints a line for each.
+// A record is a kind, the length of its body in two bytes, low byte first, and the body;
+// tests/make_vectors.py makes the records and the lines expected, and says what each kind holds.
+mod number;
+mod sheet;
+mod table;
+mod text;
+mod tick;
+mod writer;
+
+// Prints the line of one record.
+fn answer(kind: u8, body: &[u8]) {
+    match kind {
+        b'#' => text::title(body),
+        b'n' => number::number(body),
+        b's' => sheet::sheet(body),
+        b't' => table::table(body),
+        b'w' => writer::write(body),
+        b'r' => writer::round(body),
+        b'c' => tick::choose(body),
+        b'k' => tick::tick(body),
+        b'p' => tick::replay(body),
+        _ => text::unknown(),
+    }
+}
+
+// Reads a body that fills the bytes lent, prints its line, and answers whether the body was whole.
+fn read_body(kind: u8, body: &mut [u8]) -> bool {
+    let got = io::read_full(libc::STDIN_FILENO, body);
+    if got < body.len() {
+        return false;
+    }
+    answer(kind, body);
+    true
+}
+
+// Reads a body of some length into the front of a space. A body that does not fit ends the run.
+fn read_front(kind: u8, length: usize, space: &mut [u8]) -> bool {
+    if space.len() < length {
+        return false;
+    }
+    read_body(kind, &mut space[..length])
+}
+
+// Reads one record by way of a space and prints its line. Answers false at the end of the input.
+fn record(space: &mut [u8]) -> bool {
+    let mut head = [0u8; 3];
+    let got = io::read_full(libc::STDIN_FILENO, &mut head);
+    if got < 3 {
+        return false;
+    }
+    let length = text::wide(head[1]) + 256 * text::wide(head[2]);
+    read_front(head[0], length, space)
+}
+
+// A proved loop has to end, so this one counts its turns down from a number that no run uses up.
+fn records(space: &mut [u8]) {
+    let mut turns = u64::MAX;
+    while turns > 0 && record(space) {
+        turns -= 1;
+    }
+}
+
+fn main() {
+    let mut space = [0u8; 4096];
+    records(&mut space);
+}

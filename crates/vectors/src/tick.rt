@@ -1,0 +1,119 @@
+// States, choices, ticks and replays.
+use crate::table;
+use crate::text;
+use tasks::Outcome;
+use tasks::ReplayAnswer;
+use tasks::State;
+use tasks::TickAnswer;
+
+// How many bytes a state has in a body: c and p of each of eight tasks.
+const LENGTH: usize = 16;
+
+// Every second byte of a body, eight of them.
+fn every_second(b: &[u8]) -> [u8; 8] {
+    [
+        text::byte(b, 0),
+        text::byte(b, 2),
+        text::byte(b, 4),
+        text::byte(b, 6),
+        text::byte(b, 8),
+        text::byte(b, 10),
+        text::byte(b, 12),
+        text::byte(b, 14),
+    ]
+}
+
+// The state at the front of a body.
+fn of_body(b: &[u8]) -> State {
+    let c = every_second(b);
+    let p = every_second(text::rest(b, 1));
+    State { c: c, p: p }
+}
+
+// Prints c and p of a task.
+fn print_task(c: u8, p: u8) {
+    text::small(c);
+    text::small(p);
+}
+
+// Prints c and p of each of the eight tasks.
+fn print(s: State) {
+    let c = s.c;
+    let p = s.p;
+    let mut i: usize = 0;
+    while i < 8 {
+        print_task(c[i], p[i]);
+        i += 1;
+    }
+}
+
+// Prints 1 for a task that runs, and 0 for one that does not.
+fn print_choice(runs: bool) {
+    if runs {
+        text::small(1);
+    } else {
+        text::small(0);
+    }
+}
+
+// Prints which of the eight tasks run.
+fn print_choices(runs: [bool; 8]) {
+    let mut i: usize = 0;
+    while i < 8 {
+        print_choice(runs[i]);
+        i += 1;
+    }
+}
+
+// Kind c, a table and a state, proper or not: the tasks that run.
+pub fn choose(body: &[u8]) {
+    let t = table::of_body(body);
+    let s = of_body(text::rest(body, table::LENGTH));
+    text::put(b"choose");
+    print_choices(s.choose(t));
+    text::end();
+}
+
+// Kind k, a table, a state and a mask: the answer of one tick, and its state.
+pub fn tick(body: &[u8]) {
+    let t = table::of_body(body);
+    let s = of_body(text::rest(body, table::LENGTH));
+    let ticked = s.tick(t, text::byte(body, table::LENGTH + LENGTH));
+    text::put(b"tick");
+    let answer = ticked.answer;
+    match answer {
+        TickAnswer::Next => text::put(b" next"),
+        TickAnswer::Missed => text::put(b" missed"),
+        TickAnswer::Refused(r) => text::refused(r),
+    }
+    print(ticked.state);
+    text::end();
+}
+
+// Prints how a list that was played to its end, or to a miss, came out.
+fn outcome(o: Outcome) {
+    match o {
+        Outcome::Kept => text::put(b" kept"),
+        Outcome::Missed(tick) => {
+            text::put(b" missed");
+            text::number(tick);
+        }
+    }
+}
+
+// Kind p, a table and masks: the answer of the replay, and its state.
+pub fn replay(body: &[u8]) {
+    let t = table::of_body(body);
+    let replayed = tasks::replay(t, text::rest(body, table::LENGTH));
+    text::put(b"replay");
+    let answer = replayed.answer;
+    match answer {
+        ReplayAnswer::Played(o) => outcome(o),
+        ReplayAnswer::Refused(r, tick) => {
+            text::refused(r);
+            text::number(tick);
+        }
+    }
+    print(replayed.state);
+    text::end();
+}

@@ -1,0 +1,587 @@
+#!/usr/bin/env python3
+"""Makes the outside vectors of the program `vectors` from tests/reference.py alone.
+
+    tests/make_vectors.py           write crates/vectors/stdin and crates/vectors/stdout
+    tests/make_vectors.py --check   exit 1 if the stored files are not what this script makes
+
+`stdin` is a series of records: the kind (one ASCII letter), the length of the body in 2 bytes, low
+byte first, and the body. `stdout` has a line for each record. Before each vector stands a record of
+kind #, whose line is the vector's label. The kinds:
+
+    n  a place, bytes           number VALUE NEXT, or number refused R
+    s  a sheet                  sheet accepted POLICY M N and C D P of all eight, or sheet refused R
+    t  a table                  table R, 0 for a valid one
+    w  a table, a length        write LENGTH, or write refused R; then the whole output in hexadecimal
+    r  a sheet                  read and written into 64 bytes: round as write, or round refused R
+    c  a table, a state         choose, then 1 or 0 for each of the eight tasks: whether it runs
+    k  a table, a state, a mask tick next, tick missed or tick refused R; then the state
+    p  a table, masks           replay kept, replay missed TICK or replay refused R TICK; then the state
+
+A table is 27 bytes: policy, m, n, eight C, eight D, eight P. A state is 16 bytes: c and p of each of
+eight tasks, printed in that order. An output is filled with (i * 37 + 11) mod 256 at place i before
+the writer has it.
+"""
+import sys
+from pathlib import Path
+from typing import Iterator, NamedTuple
+
+sys.dont_write_bytecode = True
+
+import reference as ref
+from reference import START, State, Table, number_bytes, sheet_bytes, table_of
+
+# The kinds whose vectors are made.
+KINDS = "nstwrckp"
+
+FOLDER = Path(__file__).resolve().parent.parent / "crates" / "vectors"
+LONGEST_BODY = 4096  # what the program has room for
+
+
+class Vector(NamedTuple):
+    kind: str
+    label: str
+    body: bytes
+    line: str
+
+
+# ----------------------------------------------------------------------
+# A vector of each kind: its body, and the line that the reference gives for it
+
+
+def numbers(values) -> str:
+    return " ".join(str(x) for x in values)
+
+
+def table_bytes(table: Table) -> bytes:
+    return bytes([table.policy, table.m, table.n, *table.C, *table.D, *table.P])
+
+
+def number_vector(label: str, data: str, at: int = 0) -> Vector:
+    sheet = bytes.fromhex(data)
+    try:
+        line = "number " + numbers(ref.read_number(sheet, at))
+    except ref.Refused as refused:
+        line = f"number refused {refused.number}"
+    return Vector("n", label, bytes([at]) + sheet, line)
+
+
+def sheet_vector(label: str, sheet: bytes) -> Vector:
+    try:
+        table = ref.read_sheet(sheet)
+        tasks = [x for task in zip(table.C, table.D, table.P) for x in task]
+        line = "sheet accepted " + numbers([table.policy, table.m, table.n, *tasks])
+    except ref.Refused as refused:
+        line = f"sheet refused {refused.number}"
+    return Vector("s", label, sheet, line)
+
+
+def table_vector(label: str, table: Table) -> Vector:
+    return Vector("t", label, table_bytes(table), f"table {ref.table_fault(table)}")
+
+
+def written(table: Table, length: int) -> str:
+    """The writer's answer, and its output of some length."""
+    output = bytes((i * 37 + 11) % 256 for i in range(length))
+    try:
+        size, output = ref.write_sheet(table, output)
+        answer = f"{size}"
+    except ref.Refused as refused:
+        answer = f"refused {refused.number}"
+    return f"{answer} {output.hex() or 'empty'}"
+
+
+def write_vector(label: str, table: Table, length: int) -> Vector:
+    return Vector("w", label, table_bytes(table) + bytes([length]), "write " + written(table, length))
+
+
+def round_vector(label: str, sheet: bytes) -> Vector:
+    try:
+        line = "round " + written(ref.read_sheet(sheet), 64)
+    except ref.Refused as refused:
+        line = f"round refused {refused.number}"
+    return Vector("r", label, sheet, line)
+
+
+def choose_vector(label: str, table: Table, state: State) -> Vector:
+    running = ref.choose(table, state)
+    flags = [1 if i in running else 0 for i in range(8)]
+    return Vector("c", label, table_bytes(table) + ref.state_bytes(state), f"choose {numbers(flags)}")
+
+
+def tick_vector(label: str, table: Table, state: State, mask: int) -> Vector:
+    try:
+        missed, after = ref.tick(table, state, mask)
+        answer = "missed" if missed else "next"
+    except ref.Refused as refused:
+        answer, after = f"refused {refused.number}", state
+    body = table_bytes(table) + ref.state_bytes(state) + bytes([mask])
+    return Vector("k", label, body, f"tick {answer} {numbers(ref.state_bytes(after))}")
+
+
+def replay_vector(label: str, table: Table, masks: bytes) -> Vector:
+    played = ref.replay(table, masks)
+    answer = {
+        "kept": "kept",
+        "missed": f"missed {played.tick}",
+        "refused": f"refused {played.refusal} {played.tick}",
+    }[played.answer]
+    line = f"replay {answer} {numbers(ref.state_bytes(played.state))}"
+    return Vector("p", label, table_bytes(table) + masks, line)
+
+
+# ----------------------------------------------------------------------
+# Sheet numbers, sheets, tables, the writer
+
+PAPER = bytes.fromhex("03000102010102020404")  # the sheet of "Benchmark tables"
+TWO = [(1, 2, 2), (1, 2, 2)]
+LONGEST = sheet_bytes(table_of(3, 8, [(200, 200, 200)] * 8))  # 52 bytes
+
+
+def sheet_of(*values: int) -> bytes:
+    """The numbers of a sheet, whatever they are."""
+    return b"".join(number_bytes(x) for x in values)
+
+
+def number_vectors() -> Iterator[Vector]:
+    for value in (0, 1, 127, 128, 200, 201, 255, 256, 257, 16382, 16383):
+        yield number_vector(f"the number {value}", number_bytes(value).hex())
+    yield number_vector("the least second byte", "8001")
+    yield number_vector("the greatest second byte", "807f")
+    yield number_vector("second byte 0", "8000")
+    yield number_vector("second byte 0, first FF", "ff00")
+    yield number_vector("second byte 128", "8080")
+    yield number_vector("second byte 129 and more bytes", "818101")
+    yield number_vector("second byte 255", "ffff")
+    yield number_vector("no bytes", "")
+    yield number_vector("the end after 80", "80")
+    yield number_vector("the end after FF", "ff")
+    yield number_vector("bytes after the number are not read", "0580")
+    yield number_vector("bytes after two groups are not read", "c80180")
+    yield number_vector("from place 1", "05c801", 1)
+    yield number_vector("from the second byte of a number", "05c801", 2)
+    yield number_vector("from the end", "05c801", 3)
+    yield number_vector("from past the end", "05c801", 4)
+    yield number_vector("from far past the end", "05c801", 255)
+    yield number_vector("the last byte, at 255", "00" * 255 + "07", 255)
+    yield number_vector("the end after a first byte at 255", "00" * 255 + "87", 255)
+    yield number_vector("two bytes at 255", "00" * 255 + "ff7f", 255)
+
+
+def sheet_vectors() -> Iterator[Vector]:
+    # accepted
+    yield sheet_vector("the paper's sheet", PAPER)
+    for policy in range(4):
+        yield sheet_vector(f"two tasks, policy {policy}", sheet_bytes(table_of(policy, 1, TWO)))
+    yield sheet_vector("the least numbers", sheet_of(3, 0, 1, 1, 1, 1, 1))
+    yield sheet_vector("m 8, n 1", sheet_of(3, 1, 8, 1, 1, 2, 3))
+    yield sheet_vector("C, D, P 127, 128, 200", sheet_of(3, 2, 2, 1, 127, 128, 200))
+    yield sheet_vector("n 8, all different", sheet_bytes(table_of(2, 3, [(i, 20 * i, 25 * i) for i in range(1, 9)])))
+    yield sheet_vector("the longest sheet, 52 bytes", LONGEST)
+    # 1: the bytes end
+    for length in range(len(PAPER)):
+        yield sheet_vector(f"1: the paper's sheet, its first {length} bytes", PAPER[:length])
+    yield sheet_vector("1: the longest sheet less its last byte", LONGEST[:-1])
+    yield sheet_vector("1: the longest sheet less a number", LONGEST[:-2])
+    yield sheet_vector("1: one task of two", sheet_of(3, 1, 1, 2, 1, 2, 2))
+    yield sheet_vector("1: the end within the field count", bytes.fromhex("83"))
+    yield sheet_vector("1: the end within the policy, which is above 3", bytes.fromhex("0384"))
+    # 2: a second byte 0 or above 127, at each place
+    for place in range(10):
+        for second, name in ((0, "0"), (128, "128")):
+            if second and place % 3:
+                continue
+            parts = [number_bytes(x) for x in PAPER]
+            parts[place] = bytes([PAPER[place] + 128, second])
+            yield sheet_vector(f"2: number {place + 1} with second byte {name}", b"".join(parts))
+    # 3: field count
+    for fields in (0, 2, 4, 5, 131, 259):
+        yield sheet_vector(f"3: field count {fields}", sheet_of(fields, *PAPER[1:]))
+    # 4: policy
+    for policy in (4, 127, 128, 255, 256, 257):
+        yield sheet_vector(f"4: policy {policy}", sheet_of(3, policy, *PAPER[2:]))
+    # 5: m
+    for m in (0, 9, 129, 255, 256, 257):
+        yield sheet_vector(f"5: m {m}", sheet_of(3, 0, m, *PAPER[3:]))
+    # 6: n
+    for n in (0, 9, 130, 255, 256, 257, 258):
+        yield sheet_vector(f"6: n {n}", sheet_of(3, 0, 1, n, *PAPER[4:]))
+    # 7: a task
+    for task in (
+        (0, 1, 1),
+        (0, 0, 0),
+        (2, 1, 2),
+        (1, 2, 1),
+        (3, 2, 1),
+        (1, 1, 201),
+        (201, 201, 201),
+        (200, 201, 200),
+        (201, 200, 200),
+        (257, 2, 2),
+        (1, 258, 2),
+        (1, 2, 258),
+        (257, 257, 257),
+        (256, 256, 256),
+        (1, 1, 255),
+        (1, 1, 16383),
+        (129, 130, 131 + 128),
+    ):
+        yield sheet_vector(f"7: task 1 {task}", sheet_of(3, 1, 1, 1, *task))
+    yield sheet_vector("7: task 2 of 3", sheet_of(3, 1, 1, 3, 1, 1, 1, 1, 2, 201, 1, 1, 1))
+    yield sheet_vector("7: task 8 of 8", sheet_of(3, 1, 1, 8, *[1] * 21, 2, 1, 1))
+    # 8: bytes after the last task
+    yield sheet_vector("8: a byte 0 more", PAPER + b"\x00")
+    yield sheet_vector("8: a byte 80 more, no whole number", PAPER + b"\x80")
+    yield sheet_vector("8: a task more", sheet_of(3, 1, 1, 1, 1, 2, 2, 1, 2, 2))
+    yield sheet_vector("8: the longest sheet and a byte, 53 bytes", LONGEST + b"\x01")
+    yield sheet_vector("8: 300 bytes more", PAPER + b"\xff" * 300)
+    # several faults at once: the order
+    yield sheet_vector("order: every number wrong", sheet_of(4, 4, 0, 0, 0, 0, 0))
+    yield sheet_vector("order: field count 4 and the end", sheet_of(4))
+    yield sheet_vector("order: field count not whole, 84 00", bytes.fromhex("840004"))
+    yield sheet_vector("order: policy, m and n wrong", sheet_of(3, 4, 0, 0, 0, 0, 0))
+    yield sheet_vector("order: policy 4 and the end", sheet_of(3, 4))
+    yield sheet_vector("order: policy second byte 0, and above 3", bytes.fromhex("0384000000"))
+    yield sheet_vector("order: m and n wrong", sheet_of(3, 3, 9, 9, 0, 0, 0))
+    yield sheet_vector("order: m 0 and the end", sheet_of(3, 3, 0))
+    yield sheet_vector("order: n 0 and the end", sheet_of(3, 3, 1, 0))
+    yield sheet_vector("order: n 0 and bytes more", sheet_of(3, 3, 1, 0, 1, 1, 1))
+    yield sheet_vector("order: n 9 and the end", sheet_of(3, 3, 1, 9))
+    yield sheet_vector("order: the end after C 201", sheet_of(3, 1, 1, 1, 201))
+    yield sheet_vector("order: the end after C 0 and D 0", sheet_of(3, 1, 1, 1, 0, 0))
+    yield sheet_vector("order: C 0, then D with second byte 0", sheet_of(3, 1, 1, 1, 0) + b"\x81\x00\x01")
+    yield sheet_vector("order: C above D, then the end within P", sheet_of(3, 1, 1, 1, 2, 1) + b"\x81")
+    yield sheet_vector("order: task 1 wrong, the end", sheet_of(3, 1, 1, 2, 0, 1, 1))
+    yield sheet_vector("order: task 1 wrong, then a second byte 0", sheet_of(3, 1, 1, 2, 2, 1, 1) + b"\x81\x00")
+    yield sheet_vector("order: task 1 wrong, then the end within C", sheet_of(3, 1, 1, 2, 1, 2, 1) + b"\x81")
+    yield sheet_vector("order: task 1 wrong, bytes more", sheet_of(3, 1, 1, 1, 1, 2, 201, 1))
+    yield sheet_vector("order: task 2 wrong, bytes more", sheet_of(3, 1, 1, 2, 1, 1, 1, 0, 1, 1, 1))
+    yield sheet_vector("order: 255 bytes FF", b"\xff" * 255)
+    yield sheet_vector("order: 255 bytes 0", b"\x00" * 255)
+
+
+def changed(table: Table, **parts) -> Table:
+    """A table with some parts others."""
+    return table._replace(**parts)
+
+
+def entry(values: tuple[int, ...], place: int, value: int) -> tuple[int, ...]:
+    """Eight values with one of them another."""
+    return (*values[:place], value, *values[place + 1 :])
+
+
+def table_vectors() -> Iterator[Vector]:
+    two = table_of(1, 1, TWO)
+    full = table_of(3, 8, [(200, 200, 200)] * 8)
+    yield table_vector("two tasks", two)
+    yield table_vector("every number at its greatest", full)
+    yield table_vector("every number at its least", table_of(0, 1, [(1, 1, 1)]))
+    for policy in (2, 3, 4, 5, 255):
+        yield table_vector(f"policy {policy}", changed(two, policy=policy))
+    for m in (0, 8, 9, 255):
+        yield table_vector(f"m {m}", changed(two, m=m))
+    for n in (0, 9, 255):
+        yield table_vector(f"n {n}", changed(two, n=n))
+    yield table_vector("n 1 before two tasks", changed(two, n=1))
+    yield table_vector("n 3 before two tasks", changed(two, n=3))
+    for task in ((0, 1, 1), (2, 1, 2), (1, 2, 1), (1, 1, 201), (201, 201, 201), (1, 1, 255), (255, 255, 255)):
+        yield table_vector(f"task 1 {task}", table_of(1, 1, [task, (1, 1, 1)]))
+    yield table_vector("task 2 wrong", table_of(1, 1, [(1, 1, 1), (2, 1, 1)]))
+    yield table_vector("task 8 of 8 wrong", changed(full, C=entry(full.C, 7, 0)))
+    yield table_vector("entry 3 of 2: C 1", changed(two, C=entry(two.C, 2, 1)))
+    yield table_vector("entry 3 of 2: D 1", changed(two, D=entry(two.D, 2, 1)))
+    yield table_vector("entry 3 of 2: P 1", changed(two, P=entry(two.P, 2, 1)))
+    yield table_vector("entry 8 of 2: P 255", changed(two, P=entry(two.P, 7, 255)))
+    yield table_vector("order: all wrong", Table(4, 0, 0, (1,) * 8, (0,) * 8, (0,) * 8))
+    yield table_vector("order: m, n and tasks wrong", Table(3, 9, 9, (1,) * 8, (0,) * 8, (0,) * 8))
+    yield table_vector("order: n and tasks wrong", Table(3, 8, 9, (1,) * 8, (0,) * 8, (0,) * 8))
+    yield table_vector("order: n 0 and no tasks", Table(0, 1, 0, (0,) * 8, (0,) * 8, (0,) * 8))
+
+
+def write_vectors() -> Iterator[Vector]:
+    two = table_of(0, 1, [(1, 1, 2), (2, 4, 4)])
+    for length in (0, 1, 9, 10, 11, 64, 255):
+        yield write_vector(f"the paper's table into {length} bytes", two, length)
+    longest = table_of(3, 8, [(200, 200, 200)] * 8)
+    for length in (51, 52, 53):
+        yield write_vector(f"the longest sheet into {length} bytes", longest, length)
+    short = table_of(0, 1, [(1, 1, 1)])
+    for length in (6, 7, 8):
+        yield write_vector(f"the shortest sheet into {length} bytes", short, length)
+    yield write_vector("numbers around 128 into 16 bytes", table_of(2, 8, [(126, 127, 128), (129, 130, 200)]), 16)
+    yield write_vector("n 8, all different, into 64 bytes", table_of(2, 3, [(i, 20 * i, 25 * i) for i in range(1, 9)]), 64)
+    for length in (0, 20):
+        yield write_vector(f"policy 4 into {length} bytes", changed(two, policy=4), length)
+        yield write_vector(f"m 0 into {length} bytes", changed(two, m=0), length)
+        yield write_vector(f"n 9 into {length} bytes", changed(two, n=9), length)
+        yield write_vector(f"C above D into {length} bytes", changed(two, C=entry(two.C, 0, 2)), length)
+        yield write_vector(f"an entry after the nth into {length} bytes", changed(two, D=entry(two.D, 2, 1)), length)
+
+
+def round_vectors() -> Iterator[Vector]:
+    yield round_vector("the paper's sheet", PAPER)
+    yield round_vector("the longest sheet", LONGEST)
+    yield round_vector("the shortest sheet", sheet_of(3, 0, 1, 1, 1, 1, 1))
+    yield round_vector("n 8, all different", sheet_bytes(table_of(2, 3, [(i, 20 * i, 25 * i) for i in range(1, 9)])))
+    yield round_vector("numbers around 128", sheet_of(3, 3, 8, 2, 126, 127, 128, 129, 130, 200))
+    yield round_vector("a byte more", PAPER + b"\x00")
+    yield round_vector("a byte less", PAPER[:-1])
+    yield round_vector("a number in two bytes that one holds", bytes.fromhex("0300010281000102020404"))
+    yield round_vector("P 201", sheet_of(3, 0, 1, 1, 1, 1, 201))
+
+
+# ----------------------------------------------------------------------
+# Ticks and replays
+
+
+class Dice:
+    """Numbers that look random and are the same on every machine (a linear congruence)."""
+
+    def __init__(self, seed: int) -> None:
+        self.seed = seed
+
+    def below(self, limit: int) -> int:
+        self.seed = (self.seed * 6364136223846793005 + 1442695040888963407) % 2**64
+        return (self.seed >> 33) % limit
+
+    def between(self, least: int, most: int) -> int:
+        return least + self.below(most - least + 1)
+
+    def table(self, greatest_gap: int) -> Table:
+        tasks = []
+        load = self.between(1, 4)  # the greater, the less work
+        for _ in range(self.between(1, 8)):
+            P = self.between(1, greatest_gap)
+            D = self.between(1, P)
+            tasks.append((self.between(1, (D + load - 1) // load), D, P))
+        return table_of(self.below(4), self.between(1, 4), tasks)
+
+    def proper_state(self, table: Table) -> State:
+        """A proper state, reached or not; the start state if none was found."""
+        for _ in range(1000):
+            c, p = [0] * 8, [0] * 8
+            for i in range(table.n):
+                p[i] = self.below(table.P[i] + 1) if self.below(3) else 0
+                most = table.D[i] - table.P[i] + p[i]  # the slack of c is most - c
+                if most > 0 and self.below(3):
+                    c[i] = self.between(1, min(most, table.C[i]))
+            state = State(tuple(c), tuple(p))
+            if ref.is_proper(table, state):
+                return state
+        return START
+
+    def legal_mask(self, table: Table, state: State) -> int:
+        mask = 0
+        for i in range(table.n):
+            if state.p[i] == 0 and self.below(3):
+                mask |= 1 << i
+        return mask
+
+
+def state_of(*tasks: tuple[int, int]) -> State:
+    """A state from (c, p) of its tasks."""
+    rows = list(tasks) + [(0, 0)] * (8 - len(tasks))
+    return State(tuple(c for c, _ in rows), tuple(p for _, p in rows))
+
+
+NAMES = ("NP-GFP", "P-GFP", "NP-EDF", "P-EDF")
+
+
+def choose_vectors() -> Iterator[Vector]:
+    """The choice is made in any state of a valid table, also in one that a tick refuses."""
+    for policy, name in enumerate(NAMES):
+        one, two = table_of(policy, 1, [(3, 9, 9)] * 4), table_of(policy, 2, [(3, 9, 9)] * 4)
+        yield choose_vector(f"{name}: nothing ready", two, state_of((0, 5), (0, 0)))
+        yield choose_vector(f"{name}: four unstarted, two cores", two, state_of(*[(3, 9)] * 4))
+        yield choose_vector(f"{name}: the last one started, two cores", two, state_of(*[(3, 9)] * 3, (2, 9)))
+        yield choose_vector(f"{name}: all four started, one core", one, state_of(*[(2, 9)] * 4))
+        yield choose_vector(f"{name}: c above C is not started", one, state_of((0, 0), (3, 9), (4, 9), (5, 9)))
+        yield choose_vector(f"{name}: after the nth", one, state_of(*[(0, 0)] * 5, (1, 0), (2, 0)))
+        spread = table_of(policy, 1, [(1, 100, 100), (1, 1, 50), (1, 1, 100), (1, 1, 200), (1, 200, 200)])
+        yield choose_vector(f"{name}: d 100, -49, -99", spread, state_of((1, 100), (1, 0), (1, 0)))
+        yield choose_vector(f"{name}: d 100 and -199", spread, state_of((1, 100), (0, 0), (0, 0), (1, 0)))
+        yield choose_vector(f"{name}: d 100 and 200", spread, state_of((1, 100), (0, 0), (0, 0), (0, 0), (1, 200)))
+        yield choose_vector(f"{name}: d 255 and 200", spread, state_of((1, 255), (0, 0), (0, 0), (0, 0), (1, 200)))
+        yield choose_vector(f"{name}: d -49 three times", spread, state_of((0, 0), (1, 0), (1, 50), (1, 150)))
+
+
+def tick_vectors() -> Iterator[Vector]:
+    for policy, name in enumerate(NAMES):
+        table = table_of(policy, 1, TWO)
+        yield tick_vector(f"{name}: nothing to do", table, START, 0)
+        yield tick_vector(f"{name}: C = D = P = 1 released", table_of(policy, 1, [(1, 1, 1)]), START, 1)
+        yield tick_vector(f"{name}: C = D = P = 200 released", table_of(policy, 1, [(200, 200, 200)]), START, 1)
+        yield tick_vector(f"{name}: two jobs, one core", table, START, 3)
+        yield tick_vector(f"{name}: C = D, the second has no core", table_of(policy, 1, [(2, 2, 2), (2, 2, 3)]), START, 3)
+        yield tick_vector(f"{name}: slack 0 runs on", table_of(policy, 1, [(3, 5, 9)]), state_of((2, 6)), 0)
+        yield tick_vector(f"{name}: p alone falls", table_of(policy, 2, [(3, 5, 9), (1, 2, 4)]), state_of((0, 6), (0, 1)), 0)
+        yield tick_vector(f"{name}: a gap that has passed", table_of(policy, 2, [(3, 5, 9), (1, 2, 4)]), state_of((0, 0), (0, 4)), 1)
+        # a started long job, and an urgent one released: under NP it waits and misses
+        urgent = table_of(policy, 1, [(1, 1, 2), (4, 9, 9)])
+        yield tick_vector(f"{name}: an urgent job beside a started one", urgent, state_of((0, 0), (3, 8)), 1)
+        unstarted = table_of(policy, 1, [(1, 2, 2), (4, 9, 9)])
+        yield tick_vector(f"{name}: an urgent job beside an unstarted one", unstarted, state_of((0, 0), (4, 7)), 1)
+        # the order: by number, or by deadline with ties by number
+        late_first = table_of(policy, 1, [(2, 9, 9), (2, 5, 5)])
+        yield tick_vector(f"{name}: the second has the earlier deadline", late_first, START, 3)
+        tie = table_of(policy, 1, [(2, 5, 9), (2, 5, 7), (2, 5, 8)])
+        yield tick_vector(f"{name}: equal deadlines, three jobs", tie, START, 7)
+        yield tick_vector(f"{name}: equal deadlines, without the first", tie, START, 6)
+        aged = table_of(policy, 1, [(3, 9, 9), (3, 7, 12)])
+        yield tick_vector(f"{name}: d equal after waiting", aged, state_of((3, 7), (0, 0)), 2)
+        younger = table_of(policy, 1, [(3, 7, 12), (3, 9, 9)])
+        yield tick_vector(f"{name}: d equal, the first released later", younger, state_of((0, 0), (3, 7)), 1)
+        yield tick_vector(f"{name}: d one more than the other's", aged, state_of((3, 8), (0, 0)), 2)
+        yield tick_vector(f"{name}: d one less than the other's", aged, state_of((3, 6), (3, 12)), 0)
+        # a finished job whose d is negative takes no part
+        done = table_of(policy, 1, [(1, 2, 20), (2, 6, 6)])
+        yield tick_vector(f"{name}: a finished job with d below 0", done, state_of((0, 3), (0, 0)), 2)
+        far = table_of(policy, 1, [(1, 200, 200), (1, 5, 5)])
+        yield tick_vector(f"{name}: d 200 beside d 5", far, START, 3)
+        # many cores
+        eight = table_of(policy, 8, [(i, 34 - 2 * i, 42 - i) for i in range(1, 9)])
+        yield tick_vector(f"{name}: eight jobs, eight cores", eight, START, 255)
+        yield tick_vector(f"{name}: eight jobs, three cores", changed(eight, m=3), START, 255)
+        yield tick_vector(f"{name}: eight jobs with C = D = 1, one core", table_of(policy, 1, [(1, 1, 5)] * 8), START, 255)
+        yield tick_vector(f"{name}: more cores than tasks", table_of(policy, 8, [(2, 2, 2), (3, 3, 3)]), START, 3)
+        # started jobs at the bound and beyond it
+        three = table_of(policy, 2, [(2, 9, 9), (4, 9, 9), (4, 9, 9)])
+        yield tick_vector(f"{name}: two started on two cores, one waits", three, state_of((2, 9), (3, 8), (3, 8)), 0)
+        yield tick_vector(f"{name}: one started, two wait, two cores", three, state_of((2, 9), (4, 8), (3, 8)), 0)
+        yield tick_vector(f"{name}: three started on two cores", three, state_of((1, 8), (3, 8), (3, 8)), 0)
+        # a state that is not proper, by each cause
+        yield tick_vector(f"{name}: c above C", three, state_of((3, 9)), 0)
+        yield tick_vector(f"{name}: p above P", three, state_of((0, 10)), 0)
+        yield tick_vector(f"{name}: slack -1", three, state_of((2, 1)), 0)
+        yield tick_vector(f"{name}: d 0", three, state_of((1, 0)), 0)
+        yield tick_vector(f"{name}: d below 0", done, state_of((1, 0)), 0)
+        yield tick_vector(f"{name}: d below -127", table_of(policy, 1, [(1, 1, 200)]), state_of((1, 0)), 0)
+        yield tick_vector(f"{name}: c after the nth", three, state_of((0, 0), (0, 0), (0, 0), (1, 0)), 0)
+        yield tick_vector(f"{name}: p after the nth", three, state_of(*[(0, 0)] * 7, (0, 1)), 0)
+        # masks
+        yield tick_vector(f"{name}: a bit for no task", three, START, 8)
+        yield tick_vector(f"{name}: the highest bit, n 7", table_of(policy, 2, [(1, 9, 9)] * 7), START, 128)
+        yield tick_vector(f"{name}: a bit with p 1", three, state_of((0, 0), (0, 1)), 2)
+        yield tick_vector(f"{name}: one bit of three with p above 0", three, state_of((0, 0), (0, 0), (1, 9)), 7)
+    yield tick_vector("c 255", table_of(1, 1, TWO), state_of((255, 2)), 0)
+    yield tick_vector("p 255, and c within the time left", table_of(1, 1, TWO), state_of((1, 255)), 0)
+    # the order of refusals
+    bad_state, bad_mask = state_of((9, 9)), 128
+    table = table_of(0, 1, TWO)
+    for policy, m, n in ((4, 0, 0), (0, 0, 0), (0, 1, 0), (0, 1, 3)):
+        wrong = changed(table, policy=policy, m=m, n=n)
+        yield tick_vector(f"order: policy {policy}, m {m}, n {n}, state and mask wrong", wrong, bad_state, bad_mask)
+    yield tick_vector("order: an entry after the nth, state and mask wrong", changed(table, P=entry(table.P, 7, 1)), bad_state, bad_mask)
+    yield tick_vector("order: state and mask wrong", table, bad_state, bad_mask)
+    yield tick_vector("order: mask wrong", table, START, bad_mask)
+    # drawn ones
+    dice = Dice(1)
+    for number in range(60):
+        table = dice.table((4, 12, 200)[number % 3])
+        state = dice.proper_state(table)
+        mask = dice.below(256) if number % 10 == 9 else dice.legal_mask(table, state)
+        if number % 12 == 11:
+            place = dice.below(8)
+            state = changed(state, c=entry(state.c, place, dice.below(256)))
+        yield tick_vector(f"drawn {number + 1}", table, state, mask)
+
+
+def drawn_masks(dice: Dice, table: Table, length: int) -> bytes:
+    """Masks that are legal one after the other, up to a miss, with a stray one now and then."""
+    masks, state = [], START
+    for _ in range(length):
+        mask = dice.below(256) if dice.below(40) == 0 else dice.legal_mask(table, state)
+        masks.append(mask)
+        if not ref.is_legal(table, state, mask):
+            break
+        missed, state = ref.tick(table, state, mask)
+        if missed:
+            break
+    return bytes(masks)
+
+
+def replay_vectors() -> Iterator[Vector]:
+    for policy, name in enumerate(NAMES):
+        two = table_of(policy, 1, TWO)
+        yield replay_vector(f"{name}: the empty list", two, b"")
+        yield replay_vector(f"{name}: both, every second tick", two, bytes([3, 0] * 3))
+        yield replay_vector(f"{name}: one at a time", two, bytes([1, 2] * 3))
+        yield replay_vector(f"{name}: C = D, masks 3, 0", table_of(policy, 1, [(2, 2, 2), (1, 2, 2)]), bytes([3, 0]))
+        yield replay_vector(f"{name}: after the miss nothing is read", table_of(policy, 1, [(2, 2, 2), (1, 2, 2)]), bytes([3, 0, 255, 255]))
+        yield replay_vector(f"{name}: masks 2, 1, an urgent job", table_of(policy, 1, [(1, 1, 2), (2, 4, 4)]), bytes([2, 1]))
+        yield replay_vector(f"{name}: a miss at the first tick", table_of(policy, 1, [(1, 1, 2), (1, 1, 2)]), bytes([3]))
+        yield replay_vector(f"{name}: C = D = P = 1, released at every tick", table_of(policy, 1, [(1, 1, 1)]), bytes([1] * 5))
+        yield replay_vector(f"{name}: a gap is a least gap", table_of(policy, 1, [(1, 2, 3), (2, 4, 5)]), bytes([3, 0, 0, 0, 1, 2, 0, 0, 1]))
+        yield replay_vector(f"{name}: a mask too early, at tick 4", two, bytes([1, 0, 3, 1]))
+        yield replay_vector(f"{name}: a bit for no task, at tick 1", two, bytes([4]))
+        yield replay_vector(f"{name}: released again too early, at tick 2", table_of(policy, 1, [(1, 1, 2)]), bytes([1, 1]))
+        yield replay_vector(f"{name}: eight tasks on eight cores", table_of(policy, 8, [(i, i, i + 1) for i in range(1, 9)]), bytes([255, 0, 1, 2, 5, 8, 16, 32]))
+        yield replay_vector(f"{name}: D below P, waiting after the finish", table_of(policy, 1, [(1, 2, 10), (1, 3, 10)]), bytes([3] + [0] * 9 + [3]))
+        yield replay_vector(f"{name}: m above n", table_of(policy, 5, [(3, 3, 3), (2, 2, 2)]), bytes([3, 0, 2, 1, 2]))
+    # a tick number that one byte does not hold
+    full = table_of(3, 1, [(2, 3, 3), (2, 3, 3)])
+    yield replay_vector("a miss at tick 258", full, bytes(256) + b"\x03" + bytes(10))
+    table = table_of(0, 1, TWO)
+    for masks, name in ((b"", "the empty list"), (b"\x04", "a bit for no task")):
+        yield replay_vector(f"policy 4, {name}", changed(table, policy=4), masks)
+        yield replay_vector(f"m 9, {name}", changed(table, m=9), masks)
+        yield replay_vector(f"n 0, {name}", changed(table, n=0), masks)
+        yield replay_vector(f"an entry after the nth, {name}", changed(table, C=entry(table.C, 7, 1)), masks)
+    dice = Dice(2)
+    for number in range(12):
+        table = dice.table((4, 12, 200)[number % 3])
+        yield replay_vector(f"drawn {number + 1}", table, drawn_masks(dice, table, 12))
+
+
+# ----------------------------------------------------------------------
+# The files
+
+MAKERS = {
+    "n": number_vectors,
+    "s": sheet_vectors,
+    "t": table_vectors,
+    "w": write_vectors,
+    "r": round_vectors,
+    "c": choose_vectors,
+    "k": tick_vectors,
+    "p": replay_vectors,
+}
+
+
+def record(kind: str, body: bytes) -> bytes:
+    assert len(body) <= LONGEST_BODY, kind
+    return kind.encode("ascii") + len(body).to_bytes(2, "little") + body
+
+
+def make() -> tuple[bytes, bytes, int]:
+    """The two files, and how many vectors they have."""
+    given, expected, count = b"", "", 0
+    for kind in KINDS:
+        for vector in MAKERS[kind]():
+            given += record("#", vector.label.encode("ascii")) + record(kind, vector.body)
+            expected += f"# {vector.label}\n{vector.line}\n"
+            count += 1
+    return given, expected.encode("ascii"), count
+
+
+def main() -> int:
+    ref.self_check()
+    given, expected, count = make()
+    files = {FOLDER / "stdin": given, FOLDER / "stdout": expected}
+    if sys.argv[1:] == ["--check"]:
+        stale = [path.name for path, data in files.items() if not path.is_file() or path.read_bytes() != data]
+        if stale:
+            print(f"make_vectors: crates/vectors/{' and '.join(stale)} not as tests/make_vectors.py makes it: run it")
+            return 1
+        print(f"make_vectors: the stored files have the {count} vectors")
+        return 0
+    if sys.argv[1:]:
+        print("usage: tests/make_vectors.py [--check]")
+        return 1
+    for path, data in files.items():
+        path.write_bytes(data)
+    print(f"make_vectors: wrote {count} vectors")
+    return 0
+
+
+if __name__ == "__main__":
+    sys.exit(main())

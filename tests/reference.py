@@ -1,0 +1,477 @@
+"""An independent implementation of the verdict engine's paper (document 01), in plain Python.
+
+It is written from the paper alone and shares nothing with the library: it is slow, direct, and
+meant to be read beside the paper. Each function's docstring names the section that it follows.
+`tests/make_vectors.py` makes the outside vectors from it.
+
+A sheet and an output are `bytes`. Tasks are counted from 0 here and from 1 in the paper, so task i
+of this file is the paper's task i + 1 and has bit i of a mask.
+"""
+from itertools import product
+from typing import Iterator, NamedTuple
+
+TASKS = 8  # entries of a table and of a state
+
+# ----------------------------------------------------------------------
+# The task table
+
+
+class Table(NamedTuple):
+    """Section "The task table": a policy, m processors, n tasks, and eight entries of work C,
+    deadline D and least gap P each."""
+
+    policy: int
+    m: int
+    n: int
+    C: tuple[int, ...]
+    D: tuple[int, ...]
+    P: tuple[int, ...]
+
+
+NP_GFP, P_GFP, NP_EDF, P_EDF = range(4)
+
+
+def is_preempted(table: Table) -> bool:
+    """Section "The task table": P policies are 1 and 3."""
+    return table.policy in (P_GFP, P_EDF)
+
+
+def by_deadline(table: Table) -> bool:
+    """Section "The task table": EDF policies are 2 and 3."""
+    return table.policy in (NP_EDF, P_EDF)
+
+
+def table_of(policy: int, m: int, tasks: list[tuple[int, int, int]]) -> Table:
+    """A table from its tasks (C, D, P), as "Benchmark tables" writes it: policy/m: (C,D,P), .. The
+    entries after the last are 0."""
+    rows = list(tasks) + [(0, 0, 0)] * (TASKS - len(tasks))
+    works, deadlines, gaps = zip(*rows)
+    return Table(policy, m, len(tasks), works, deadlines, gaps)
+
+
+def table_fault(table: Table) -> int:
+    """Section "Refusals by cause", 4 to 7 for a table in memory, in that order; 0 for a valid
+    table."""
+    if table.policy > 3:
+        return 4
+    if not 1 <= table.m <= 8:
+        return 5
+    if not 1 <= table.n <= 8:
+        return 6
+    for i in range(TASKS):
+        C, D, P = table.C[i], table.D[i], table.P[i]
+        if i < table.n:
+            if not 1 <= C <= D <= P <= 200:
+                return 7
+        elif (C, D, P) != (0, 0, 0):
+            return 7
+    return 0
+
+
+# ----------------------------------------------------------------------
+# The sheet as bytes
+
+
+class Refused(Exception):
+    """A refusal, with its number ("Refusals by cause")."""
+
+    def __init__(self, number: int) -> None:
+        super().__init__(number)
+        self.number = number
+
+
+def refusal(call, *arguments) -> int:
+    """The number that a call refuses with, and 0 where it does not refuse."""
+    try:
+        call(*arguments)
+    except Refused as refused:
+        return refused.number
+    return 0
+
+
+def read_number(sheet: bytes, at: int) -> tuple[int, int]:
+    """Section "The sheet as bytes": the number that starts at a place, and the place after it.
+    Groups of seven bits, low group first, top bit set when another follows; one or two bytes, a
+    second byte is 1 to 127. Refusal 1: the bytes end before the number is complete. 2: a second
+    byte 0 or above 127."""
+    if at >= len(sheet):
+        raise Refused(1)
+    first = sheet[at]
+    if first < 128:
+        return first, at + 1
+    if at + 1 >= len(sheet):
+        raise Refused(1)
+    second = sheet[at + 1]
+    if second == 0 or second > 127:
+        raise Refused(2)
+    return (first - 128) + 128 * second, at + 2
+
+
+def read_sheet(sheet: bytes) -> Table:
+    """Section "The sheet as bytes", and the order of "Refusals by cause": a sheet is judged in
+    reading order, each number 1, 2, then its own rule; 7 after a task's three numbers; 8 at the
+    end. A rule is about the whole number, which goes up to 16,383."""
+    fields, at = read_number(sheet, 0)
+    if fields != 3:
+        raise Refused(3)
+    policy, at = read_number(sheet, at)
+    if policy > 3:
+        raise Refused(4)
+    m, at = read_number(sheet, at)
+    if not 1 <= m <= 8:
+        raise Refused(5)
+    n, at = read_number(sheet, at)
+    if not 1 <= n <= 8:
+        raise Refused(6)
+    tasks = []
+    for _ in range(n):
+        C, at = read_number(sheet, at)
+        D, at = read_number(sheet, at)
+        P, at = read_number(sheet, at)
+        if not 1 <= C <= D <= P <= 200:
+            raise Refused(7)
+        tasks.append((C, D, P))
+    if at != len(sheet):
+        raise Refused(8)
+    return table_of(policy, m, tasks)
+
+
+def number_bytes(number: int) -> bytes:
+    """Section "The sheet as bytes": a number of at most 16,383 as one or two groups. So 200 is C8
+    01."""
+    if number < 128:
+        return bytes([number])
+    return bytes([128 + number % 128, number // 128])
+
+
+def sheet_bytes(table: Table) -> bytes:
+    """Section "The sheet as bytes", the order: fields for each task (3), policy, m, n, then C, D, P
+    for each task, and the end."""
+    numbers = [3, table.policy, table.m, table.n]
+    for i in range(table.n):
+        numbers += [table.C[i], table.D[i], table.P[i]]
+    return b"".join(number_bytes(x) for x in numbers)
+
+
+def write_sheet(table: Table, output: bytes) -> tuple[int, bytes]:
+    """Section "The sheet as bytes", the writer: the sheet at the front of the output, its length is
+    returned, later bytes stay. "Refusals by cause": 4 to 7, then 12 for an output shorter than the
+    sheet. The output handed in is not changed: what it becomes is returned."""
+    fault = table_fault(table)
+    if fault:
+        raise Refused(fault)
+    sheet = sheet_bytes(table)
+    if len(output) < len(sheet):
+        raise Refused(12)
+    return len(sheet), sheet + output[len(sheet) :]
+
+
+# ----------------------------------------------------------------------
+# State
+
+
+class State(NamedTuple):
+    """Section "State": for each of eight tasks c, the work left, and p, the ticks until it may be
+    released again."""
+
+    c: tuple[int, ...]
+    p: tuple[int, ...]
+
+
+START = State((0,) * TASKS, (0,) * TASKS)
+
+
+def time_left(table: Table, state: State, i: int) -> int:
+    """Section "State": d = D - (P - p), a signed number. It is spoken of where c > 0."""
+    return table.D[i] - (table.P[i] - state.p[i])
+
+
+def slack(table: Table, state: State, i: int) -> int:
+    """Section "State": the slack is the signed number d - c."""
+    return time_left(table, state, i) - state.c[i]
+
+
+def is_started(table: Table, state: State, i: int) -> bool:
+    """Section "State": started means 0 < c < C."""
+    return 0 < state.c[i] < table.C[i]
+
+
+def is_late(table: Table, state: State) -> bool:
+    """Sections "State" and "One tick", step 5: some task has c > 0 and slack below 0."""
+    return any(state.c[i] > 0 and slack(table, state, i) < 0 for i in range(TASKS))
+
+
+def is_proper(table: Table, state: State) -> bool:
+    """Section "State": c <= C and p <= P, every task with c > 0 has slack 0 or more, tasks after
+    the nth are 0, and, under policies 0 and 2, at most m jobs are started."""
+    for i in range(table.n):
+        if state.c[i] > table.C[i] or state.p[i] > table.P[i]:
+            return False
+    for i in range(table.n, TASKS):
+        if state.c[i] != 0 or state.p[i] != 0:
+            return False
+    if is_late(table, state):
+        return False
+    if not is_preempted(table):
+        started = [i for i in range(table.n) if is_started(table, state, i)]
+        if len(started) > table.m:
+            return False
+    return True
+
+
+# ----------------------------------------------------------------------
+# One tick
+
+
+def mask_tasks(mask: int) -> list[int]:
+    """Section "One tick": a release mask is a byte; a bit stands for a task."""
+    return [i for i in range(TASKS) if mask >> i & 1]
+
+
+def is_legal(table: Table, state: State, mask: int) -> bool:
+    """Section "One tick", step 1: every bit set must belong to a task of the table with p = 0."""
+    return all(i < table.n and state.p[i] == 0 for i in mask_tasks(mask))
+
+
+def release(table: Table, state: State, mask: int) -> State:
+    """Section "One tick", step 1: each task of the mask gets c = C, p = P."""
+    c, p = list(state.c), list(state.p)
+    for i in mask_tasks(mask):
+        c[i], p[i] = table.C[i], table.P[i]
+    return State(tuple(c), tuple(p))
+
+
+def choose(table: Table, state: State) -> list[int]:
+    """Section "One tick", steps 2 and 3: the tasks that run. Ready tasks have c > 0; GFP orders
+    them by task number, EDF by smaller d, then by task number. Under P the first m run. Under NP
+    every started job runs, then the unstarted ready ones in order until m run."""
+    ready = [i for i in range(TASKS) if state.c[i] > 0]
+    if by_deadline(table):
+        ready.sort(key=lambda i: (time_left(table, state, i), i))
+    if is_preempted(table):
+        return ready[: table.m]
+    running = [i for i in ready if is_started(table, state, i)]
+    for i in ready:
+        if i not in running and len(running) < table.m:
+            running.append(i)
+    return running
+
+
+def run(state: State, running: list[int]) -> State:
+    """Section "One tick", step 4: each running task's c falls by 1. Every p above 0 falls by 1."""
+    c = tuple(x - 1 if i in running else x for i, x in enumerate(state.c))
+    p = tuple(x - 1 if x > 0 else x for x in state.p)
+    return State(c, p)
+
+
+def tick(table: Table, state: State, mask: int) -> tuple[bool, State]:
+    """Section "One tick": whether the tick missed (step 5), and the state after step 4. "Refusals
+    by cause": 4 to 7, then 13 for a state that is not proper, then 11 for the mask."""
+    fault = table_fault(table)
+    if fault:
+        raise Refused(fault)
+    if not is_proper(table, state):
+        raise Refused(13)
+    if not is_legal(table, state, mask):
+        raise Refused(11)
+    released = release(table, state, mask)
+    after = run(released, choose(table, released))
+    return is_late(table, after), after
+
+
+# ----------------------------------------------------------------------
+# Replay
+
+
+class Replayed(NamedTuple):
+    """Section "Replay": the answer is "kept", "missed" or "refused". `tick` is the number of the
+    tick that missed or was refused, first tick 1; 0 when the list was kept or the table itself was
+    refused. The state is the last one, the one missed with, or the one that the refused tick was
+    given."""
+
+    answer: str
+    refusal: int
+    tick: int
+    state: State
+
+
+def replay(table: Table, masks: bytes) -> Replayed:
+    """Section "Replay": a byte list is played from the start state, one mask a tick. Kept with the
+    last state; Missed with the tick's number and state, later masks unread; refusal 11 with the
+    tick's number. "Refusals by cause": a call given a table applies 4 to 7 first, also when the
+    list is empty."""
+    fault = table_fault(table)
+    if fault:
+        return Replayed("refused", fault, 0, START)
+    state = START
+    for number, mask in enumerate(masks, start=1):
+        try:
+            missed, after = tick(table, state, mask)
+        except Refused as refused:
+            return Replayed("refused", refused.number, number, state)
+        if missed:
+            return Replayed("missed", 0, number, after)
+        state = after
+    return Replayed("kept", 0, 0, state)
+
+
+# ----------------------------------------------------------------------
+# The search
+
+SLOT = 24  # bytes of a slot
+MOST_SLOTS = 1_000_000
+
+
+def slots(work_length: int) -> int:
+    """Section "The search": K = work length divided by 24, rounded down, at most 1,000,000."""
+    return min(work_length // SLOT, MOST_SLOTS)
+
+
+def successors(table: Table, state: State) -> Iterator[tuple[int, bool, State]]:
+    """Every legal mask from a proper state of a valid table, with whether its tick misses, and the
+    state after it. An illegal mask is refused, and a refused list neither misses nor reaches."""
+    for mask in range(256):
+        if is_legal(table, state, mask):
+            missed, after = tick(table, state, mask)
+            yield mask, missed, after
+
+
+class Level(NamedTuple):
+    """What lists of at most `ticks` ticks reach without a miss (`reached`; their number is
+    N(ticks)), and whether some list of `ticks` + 1 ticks misses with its last tick."""
+
+    ticks: int
+    reached: frozenset[State]
+    misses_next: bool
+
+
+def levels(table: Table) -> Iterator[Level]:
+    """Demand 3, N(d) for d = 0, 1, 2 .., up to the first d where a list misses at the next tick, or
+    where one tick more reaches no new state (N(d) is then the greatest). Breadth first: only a
+    state that was first reached at d ticks can lead to a state first reached at d + 1, or to a
+    first miss."""
+    reached = {START}
+    newest = {START}
+    ticks = 0
+    while True:
+        after = [step for state in newest for step in successors(table, state)]
+        misses = any(missed for _, missed, _ in after)
+        yield Level(ticks, frozenset(reached), misses)
+        newest = {state for _, _, state in after} - reached
+        if misses or not newest:
+            return
+        reached |= newest
+        ticks += 1
+
+
+def by_every_list(table: Table, ticks: int) -> tuple[set[State], int]:
+    """Demand 3 to the letter, for small tables: the states that lists of at most so many ticks
+    reach, and the least number of ticks that a list among them has that misses, 0 where none does.
+    Of the masks with a bit for no task, which are all refused, one stands for all."""
+    reached, least = set(), 0
+    for length in range(ticks + 1):
+        for masks in product(range(2**table.n + 1), repeat=length):
+            played = replay(table, bytes(masks))
+            if played.answer == "kept":
+                reached.add(played.state)
+            elif played.answer == "missed" and least == 0:
+                least = length
+    return reached, least
+
+
+class Verdict(NamedTuple):
+    """Section "The search": kind is "safe", "unsafe", "room" or "refused". L is 0 unless unsafe. N
+    is the count, and under "refused" the refusal's number."""
+
+    kind: str
+    L: int
+    N: int
+
+
+def verdict(table: Table, K: int) -> Verdict:
+    """Demand 3, for a valid table and K slots. Unsafe exactly when some list misses and N(L - 1) is
+    at most K, with L and N(L - 1); Safe exactly when no list misses and N(d) is at most K for every
+    d, with the greatest N(d); No room in every other case, with K. Since N(d) never falls, no level
+    after one with N(d) above K can alter the answer."""
+    for level in levels(table):
+        count = len(level.reached)
+        if count > K:
+            return Verdict("room", 0, K)
+        if level.misses_next:
+            return Verdict("unsafe", level.ticks + 1, count)
+    return Verdict("safe", 0, count)
+
+
+def search(table: Table, work_length: int, trace_length: int) -> Verdict:
+    """Section "The search" given a table. "Refusals by cause": 4 to 7, then 9 when K is 0, then 10
+    when the trace space is shorter than K."""
+    fault = table_fault(table)
+    if fault:
+        return Verdict("refused", 0, fault)
+    K = slots(work_length)
+    if K == 0:
+        return Verdict("refused", 0, 9)
+    if trace_length < K:
+        return Verdict("refused", 0, 10)
+    return verdict(table, K)
+
+
+def search_sheet(sheet: bytes, work_length: int, trace_length: int) -> Verdict:
+    """Section "The search" given a sheet. "Refusals by cause": 1 to 8 by the sheet, then 9 and
+    10."""
+    try:
+        table = read_sheet(sheet)
+    except Refused as refused:
+        return Verdict("refused", 0, refused.number)
+    return search(table, work_length, trace_length)
+
+
+def verdict_number(found: Verdict) -> int:
+    """Section "The search", the call for C: kind x 2^48 + L x 2^24 + N, with kind 1 Safe, 2 Unsafe,
+    3 No room, 0 refused; L is 0 unless Unsafe; under 0, N is the refusal number."""
+    kind = {"refused": 0, "safe": 1, "unsafe": 2, "room": 3}[found.kind]
+    return kind * 2**48 + found.L * 2**24 + found.N
+
+
+def state_bytes(state: State) -> bytes:
+    """Section "The search": the 16 state bytes of a slot: c, p of task 1, then task 2 and so on."""
+    return bytes(x for pair in zip(state.c, state.p) for x in pair)
+
+
+def self_check() -> None:
+    """Section "Benchmark tables": every entry, starred or not. Then demand 3: the levels are those
+    that replaying every list gives."""
+    big = MOST_SLOTS
+    two = table_of(P_GFP, 1, [(1, 2, 2), (1, 2, 2)])
+    assert verdict(two, big) == ("safe", 0, 4) and verdict(two, 3) == ("room", 0, 3)
+    assert verdict(two, 4) == ("safe", 0, 4)
+    urgent = table_of(NP_GFP, 1, [(1, 1, 2), (2, 4, 4)])
+    assert verdict(urgent, big) == ("unsafe", 2, 4) and verdict(urgent, 3) == ("room", 0, 3)
+    assert replay(urgent, bytes([2, 1]))[:3] == ("missed", 0, 2)
+    assert read_sheet(bytes.fromhex("03000102010102020404")) == urgent
+    assert search_sheet(bytes.fromhex("03000102010102020404"), 65_520, 8_192) == ("unsafe", 2, 4)
+    full = table_of(P_GFP, 1, [(2, 2, 2), (1, 2, 2)])
+    assert replay(full, bytes([3, 0]))[:3] == ("missed", 0, 2)
+    assert verdict(table_of(P_GFP, 1, [(1, 1, 1)]), big) == ("safe", 0, 1)
+    both = table_of(P_GFP, 1, [(1, 1, 2), (1, 1, 2)])
+    assert verdict(both, 1) == ("unsafe", 1, 1) and replay(both, bytes([3]))[:3] == ("missed", 0, 1)
+    assert read_number(bytes.fromhex("c801"), 0) == (200, 2)
+    assert refusal(read_number, bytes.fromhex("8000"), 0) == 2
+    assert refusal(read_number, bytes.fromhex("80"), 0) == 1
+    long_gap = table_of(P_GFP, 1, [(1, 1, 200)])
+    assert verdict(long_gap, big) == ("safe", 0, 200) and verdict(long_gap, 199) == ("room", 0, 199)
+    assert refusal(read_sheet, bytes.fromhex("04010101010101")) == 3
+    assert refusal(read_sheet, bytes.fromhex("03010101c901c901c901")) == 7
+    for policy in range(4):
+        for tasks in ([(1, 2, 2), (1, 2, 2)], [(1, 1, 2), (2, 4, 4)], [(2, 3, 4), (2, 5, 5)]):
+            table = table_of(policy, 1, tasks)
+            for level in list(levels(table))[:4]:
+                reached, _ = by_every_list(table, level.ticks)
+                _, least = by_every_list(table, level.ticks + 1)
+                assert level.reached == reached
+                assert level.misses_next == (least == level.ticks + 1)
+
+
+if __name__ == "__main__":
+    self_check()
+    print("reference: the paper's benchmark entries hold")
