@@ -1,32 +1,27 @@
 -- From what the parts of the search leave to the claim: the verdict with its slots cleared, the refusals, the packed number. Assumes nothing.
-use Prim.Native.Nat.{ℕ, zero, suc, _+_, _*_, _/_, _^_, _≤_, _<_, min}
-use mathlib.Core.Path.{_≡_, refl, sym, ap, _∙_}
-use mathlib.Core.List.{List, [], _∷_}
+use Prim.Native.Nat.{ℕ, zero, suc, _*_, _/_, _≤_, _<_, min}
+use mathlib.Core.Path.{_≡_, refl, ap, _∙_}
+use mathlib.Core.List.{List}
 use native.Mathlib.Omega.{arith}
 use native.Mathlib.Decide.{decLt}
 use native.Mathlib.Nat.{min-le-left, min-le-right}
-use lib.Dec.{eqb, ltb}
-use lib.ListN.{length, getD, drop, replicate, length-replicate, getD-replicate}
+use lib.ListN.{length, getD, replicate, length-replicate}
 use borrow.Author.Tests.{eq-eqb, ne-eqb, lt-ltb, le-ltb}
-use Rattle.tasks.specs.Lists.{pick}
 use Rattle.tasks.specs.Table.{tableFault}
-use Rattle.tasks.specs.Sheet.{sheetOf, acceptedAs}
+use Rattle.tasks.specs.Sheet.{sheetOf}
 use Rattle.tasks.specs.declared.table.Table.{Table}
 use Rattle.tasks.specs.declared.sheet.Reading.{Reading}
 use Rattle.tasks.specs.declared.sheet.Reading.the-variants as Reading
-use Rattle.tasks.specs.declared.sheet.Sheet.{Sheet}
 use Rattle.levels.specs.Verdict.{Answer}
 use Rattle.levels.specs.Verdict.Answer.{Unsafe, Safe, NoRoom}
 use Rattle.levels.specs.Slots.{countOf}
 use Rattle.levels.proofs.Slots.{rule-same, stored-same, complete-same}
 use Rattle.levels.proofs.Shortest.{unsafe-room}
 use Rattle.search.specs.System.{system}
-use Rattle.search.specs.Slot.{stateAt, parentAt, maskAt, Cleared}
-use Rattle.search.specs.Claim.{slotsIn, spacesRefusal, tableRefusal, afterReading, sheetRefusal, Figures, figures, verdictFigures, refusalFigures, packed, Searched, Found, Search}
-use Rattle.search.specs.Keeping.{Spaces, Lent, Ran, RanBy, answerOf, Low}
+use Rattle.search.specs.Slot.{Cleared}
+use Rattle.search.specs.Claim.{slotsIn, spacesRefusal, tableRefusal, afterReading, sheetRefusal, Figures, figures, verdictFigures, refusalFigures, Searched, Found, Search}
+use Rattle.search.specs.Keeping.{Spaces, Lent, RanBy, answerOf, Low}
 use Rattle.search.specs.declared.run.SearchAnswer.{SearchAnswer}
-use Rattle.search.specs.declared.run.SearchAnswer.the-variants as SearchAnswer
-use Rattle.search.proofs.StoreLaws.{later-from}
 
 -- the figures of the code's answer for a verdict
 pub answer-figures : (a : Answer) → figures (answerOf a) ≡ verdictFigures a
@@ -38,38 +33,6 @@ pub answer-count : (a : Answer) → figures (answerOf a) .N ≡ countOf a
 answer-count (Unsafe l n) = refl
 answer-count (Safe n) = refl
 answer-count (NoRoom n) = refl
-
-module _ {t : Table} {w trace heads : List ℕ} {k : ℕ} (spaces : Spaces t w trace heads k) where
-  module _ {w₁ trace′ : List ℕ} {a : SearchAnswer} (x : RanBy t w w₁ trace trace′ k a) where
-    count : figures a .N ≡ countOf (x .answer)
-    count = ap (λ r. figures r .N) (x .is) ∙ answer-count (x .answer)
-
-    -- the count's slots fit the work space
-    pub ran-fits : length w₁ ≡ length w → 24 * figures a .N ≤ length w₁
-    ran-fits e = let f = spaces .fits in let m = x .ran .most in omega (arith, count)
-
-    -- with the links cleared it is the claim
-    pub ran-found : {w₂ : List ℕ} → k ≡ slotsIn w → length w₁ ≡ length w → length trace′ ≡ length trace → Cleared w₁ w₂ (figures a .N) → Found t w w₂ trace trace′ (figures a)
-    ran-found {w₂} is len trace-len y =
-        let z : Cleared w₁ w₂ (countOf (x .answer)) = rw count at y in
-        let r = x .ran in
-        record {
-          answer = x .answer;
-          is = ap figures (x .is) ∙ answer-figures (x .answer);
-          searched =
-              record {
-                verdict = rw (← is) (r .verdict);
-                rule = rule-same (system t) (r .rule) (r .some) (z .states) (z .parents) (z .masks);
-                most = rw (← is) (r .most);
-                stored = stored-same (system t) (r .stored) (z .states);
-                complete = complete-same (system t) (x .answer) (r .complete) (z .states);
-                formed = z .formed;
-                work-rest = z .later ∙ r .later;
-                work-length = z .len ∙ len;
-                trace-rest = r .rest;
-                trace-length = trace-len;
-              };
-        }
 
 -- ---- K and the refusals
 
@@ -115,6 +78,40 @@ module _ (w trace : List ℕ) where
     pub sheet-read : sheetOf sheet .answer ≡ Reading.Accepted → sheetRefusal sheet w trace ≡ spacesRefusal w trace
     unfolding sheetRefusal
     sheet-read e = ap (λ a. afterReading a (spacesRefusal w trace)) e
+
+-- ---- the verdict with its slots cleared
+
+module _ {t : Table} {w trace : List ℕ} {k : ℕ} (lent : Lent t w trace k) where
+  module _ {w₁ trace′ : List ℕ} {a : SearchAnswer} (x : RanBy t w w₁ trace trace′ k a) where
+    count : figures a .N ≡ countOf (x .answer)
+    count = ap (λ r. figures r .N) (x .is) ∙ answer-count (x .answer)
+
+    -- the count's slots fit the work space
+    pub ran-fits : length w₁ ≡ length w → 24 * figures a .N ≤ length w₁
+    ran-fits e = let f = lent .is in let m = x .ran .most in omega (arith, count, slots-fit w trace)
+
+    -- with the links cleared it is the claim
+    pub ran-found : {w₂ : List ℕ} → length w₁ ≡ length w → length trace′ ≡ length trace → Cleared w₁ w₂ (figures a .N) → Found t w w₂ trace trace′ (figures a)
+    ran-found {w₂} len trace-len y =
+        let z : Cleared w₁ w₂ (countOf (x .answer)) = rw count at y in
+        let r = x .ran in
+        record {
+          answer = x .answer;
+          is = ap figures (x .is) ∙ answer-figures (x .answer);
+          searched =
+              record {
+                verdict = rw (← lent .is) (r .verdict);
+                rule = rule-same (system t) (r .rule) (r .some) (z .states) (z .parents) (z .masks);
+                most = rw (← lent .is) (r .most);
+                stored = stored-same (system t) (r .stored) (z .states);
+                complete = complete-same (system t) (x .answer) (r .complete) (z .states);
+                formed = z .formed;
+                work-rest = z .later ∙ r .later;
+                work-length = z .len ∙ len;
+                trace-rest = r .rest;
+                trace-length = trace-len;
+              };
+        }
 
 -- a search that is refused, and one that is not
 pub refused-search : {q r : ℕ} {t : Table} {w trace : List ℕ} → q ≡ r → 0 < r → Search q t w w trace trace (refusalFigures r)
