@@ -1,0 +1,13 @@
+pub mod Compute
+pub mod Counter
+pub mod Exist
+pub mod Explore
+pub mod Index
+pub mod Legal
+pub mod Numbered
+pub mod Replay
+pub mod Shortest
+pub mod Slots
+pub mod Steps
+pub mod Trails
+pub mod Verdicts

@@ -1,0 +1,5 @@
+pub mod Compute
+pub mod Index
+pub mod Levels
+pub mod Slots
+pub mod Verdict

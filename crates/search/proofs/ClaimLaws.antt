@@ -1,0 +1,163 @@
+-- From what the parts of the search leave to the claim: the verdict with its slots cleared, the refusals, the packed number. Assumes nothing.
+use Prim.Native.Nat.{ℕ, zero, suc, _+_, _*_, _/_, _^_, _≤_, _<_, min}
+use mathlib.Core.Path.{_≡_, refl, sym, ap, _∙_}
+use mathlib.Core.List.{List, [], _∷_}
+use native.Mathlib.Omega.{arith}
+use native.Mathlib.Decide.{decLt}
+use native.Mathlib.Nat.{min-le-left, min-le-right}
+use lib.Dec.{eqb, ltb}
+use lib.ListN.{length, getD, drop, replicate, length-replicate, getD-replicate}
+use borrow.Author.Tests.{eq-eqb, ne-eqb, lt-ltb, le-ltb}
+use Rattle.tasks.specs.Lists.{pick}
+use Rattle.tasks.specs.Table.{tableFault}
+use Rattle.tasks.specs.Sheet.{sheetOf, acceptedAs}
+use Rattle.tasks.specs.declared.table.Table.{Table}
+use Rattle.tasks.specs.declared.sheet.Reading.{Reading}
+use Rattle.tasks.specs.declared.sheet.Reading.the-variants as Reading
+use Rattle.tasks.specs.declared.sheet.Sheet.{Sheet}
+use Rattle.levels.specs.Verdict.{Answer}
+use Rattle.levels.specs.Verdict.Answer.{Unsafe, Safe, NoRoom}
+use Rattle.levels.specs.Slots.{countOf}
+use Rattle.levels.proofs.Slots.{rule-same, stored-same, complete-same}
+use Rattle.levels.proofs.Shortest.{unsafe-room}
+use Rattle.search.specs.System.{system}
+use Rattle.search.specs.Slot.{stateAt, parentAt, maskAt, Cleared}
+use Rattle.search.specs.Claim.{slotsIn, spacesRefusal, tableRefusal, afterReading, sheetRefusal, Figures, figures, verdictFigures, refusalFigures, packed, Searched, Found, Search}
+use Rattle.search.specs.Keeping.{Spaces, Lent, Ran, RanBy, answerOf, Low}
+use Rattle.search.specs.declared.run.SearchAnswer.{SearchAnswer}
+use Rattle.search.specs.declared.run.SearchAnswer.the-variants as SearchAnswer
+use Rattle.search.proofs.StoreLaws.{later-from}
+
+-- the figures of the code's answer for a verdict
+pub answer-figures : (a : Answer) → figures (answerOf a) ≡ verdictFigures a
+answer-figures (Unsafe l n) = refl
+answer-figures (Safe n) = refl
+answer-figures (NoRoom n) = refl
+
+pub answer-count : (a : Answer) → figures (answerOf a) .N ≡ countOf a
+answer-count (Unsafe l n) = refl
+answer-count (Safe n) = refl
+answer-count (NoRoom n) = refl
+
+module _ {t : Table} {w trace heads : List ℕ} {k : ℕ} (spaces : Spaces t w trace heads k) where
+  module _ {w₁ trace′ : List ℕ} {a : SearchAnswer} (x : RanBy t w w₁ trace trace′ k a) where
+    count : figures a .N ≡ countOf (x .answer)
+    count = ap (λ r. figures r .N) (x .is) ∙ answer-count (x .answer)
+
+    -- the count's slots fit the work space
+    pub ran-fits : length w₁ ≡ length w → 24 * figures a .N ≤ length w₁
+    ran-fits e = let f = spaces .fits in let m = x .ran .most in omega (arith, count)
+
+    -- with the links cleared it is the claim
+    pub ran-found : {w₂ : List ℕ} → k ≡ slotsIn w → length w₁ ≡ length w → length trace′ ≡ length trace → Cleared w₁ w₂ (figures a .N) → Found t w w₂ trace trace′ (figures a)
+    ran-found {w₂} is len trace-len y =
+        let z : Cleared w₁ w₂ (countOf (x .answer)) = rw count at y in
+        let r = x .ran in
+        record {
+          answer = x .answer;
+          is = ap figures (x .is) ∙ answer-figures (x .answer);
+          searched =
+              record {
+                verdict = rw (← is) (r .verdict);
+                rule = rule-same (system t) (r .rule) (r .some) (z .states) (z .parents) (z .masks);
+                most = rw (← is) (r .most);
+                stored = stored-same (system t) (r .stored) (z .states);
+                complete = complete-same (system t) (x .answer) (r .complete) (z .states);
+                formed = z .formed;
+                work-rest = z .later ∙ r .later;
+                work-length = z .len ∙ len;
+                trace-rest = r .rest;
+                trace-length = trace-len;
+              };
+        }
+
+-- ---- K and the refusals
+
+module _ (w trace : List ℕ) where
+  pub slots-fit : 24 * slotsIn w ≤ length w
+  unfolding slotsIn
+  slots-fit = let a : min (length w / 24) 1000000 ≤ length w / 24 = min-le-left _ _ in omega arith
+
+  pub slots-few : slotsIn w ≤ 1000000
+  unfolding slotsIn
+  slots-few = min-le-right _ _
+
+  pub slots-is : {k : ℕ} → k ≡ min (length w / 24) 1000000 → k ≡ slotsIn w
+  unfolding slotsIn
+  slots-is e = e
+
+  pub refusal-nine : slotsIn w ≡ 0 → spacesRefusal w trace ≡ 9
+  unfolding spacesRefusal
+  refusal-nine e = rw (eq-eqb (slotsIn w) 0 e)
+
+  pub refusal-ten : (slotsIn w ≡ 0 → ⊥) → length trace < slotsIn w → spacesRefusal w trace ≡ 10
+  unfolding spacesRefusal
+  refusal-ten e h = rw (ne-eqb (slotsIn w) 0 e, lt-ltb (length trace) (slotsIn w) h)
+
+  pub refusal-zero : (slotsIn w ≡ 0 → ⊥) → slotsIn w ≤ length trace → spacesRefusal w trace ≡ 0
+  unfolding spacesRefusal
+  refusal-zero e h = rw (ne-eqb (slotsIn w) 0 e, le-ltb (length trace) (slotsIn w) h)
+
+  module _ (t : Table) where
+    pub table-fault : 0 < tableFault t → tableRefusal t w trace ≡ tableFault t
+    unfolding tableRefusal
+    table-fault h = rw (lt-ltb 0 (tableFault t) h)
+
+    pub table-valid : tableFault t ≤ 0 → tableRefusal t w trace ≡ spacesRefusal w trace
+    unfolding tableRefusal
+    table-valid h = rw (le-ltb 0 (tableFault t) h)
+
+  module _ (sheet : List ℕ) where
+    pub sheet-fault : {r : ℕ} → sheetOf sheet .answer ≡ Reading.Refused r → sheetRefusal sheet w trace ≡ r
+    unfolding sheetRefusal
+    sheet-fault e = ap (λ a. afterReading a (spacesRefusal w trace)) e
+
+    pub sheet-read : sheetOf sheet .answer ≡ Reading.Accepted → sheetRefusal sheet w trace ≡ spacesRefusal w trace
+    unfolding sheetRefusal
+    sheet-read e = ap (λ a. afterReading a (spacesRefusal w trace)) e
+
+-- a search that is refused, and one that is not
+pub refused-search : {q r : ℕ} {t : Table} {w trace : List ℕ} → q ≡ r → 0 < r → Search q t w w trace trace (refusalFigures r)
+refused-search e h = record { refused = λ l. (rw e, refl, refl); found = λ z. absurd (omega arith) }
+
+pub found-search : {q : ℕ} {t : Table} {w w′ trace trace′ : List ℕ} {f : Figures} → q ≡ 0 → Found t w w′ trace trace′ f → Search q t w w′ trace trace′ f
+found-search e x = record { refused = λ l. absurd (omega arith); found = λ z. x }
+
+-- ---- the heads
+
+pub zeros : (n b : ℕ) → _≡_ {A = ℕ} (getD (replicate n 0) b 0) 0
+zeros zero b = refl
+zeros (suc n) zero = refl
+zeros (suc n) (suc b) = zeros n b
+
+-- a valid table's spaces with heads of no chain
+pub lent-spaces : {t : Table} {w trace heads : List ℕ} {k n : ℕ} → Lent t w trace k → heads ≡ replicate n 0 → 0 < n → Spaces t w trace heads k
+lent-spaces {t} {w} {trace} {heads} {k} {n} x e h =
+    record {
+      valid = x .valid;
+      some = x .some;
+      few = (let a = x .is in omega (arith, slots-few w trace));
+      fits = (let a = x .is in omega (arith, slots-fit w trace));
+      long = x .long;
+      buckets = rw e (omega (arith, length-replicate {A = ℕ} n 0));
+      empty = λ b. rw e (zeros n b);
+    }
+
+-- ---- the packed number
+
+-- a verdict's figures are at most K
+low-verdict : {t : Table} {w w′ trace trace′ : List ℕ} (v : Answer) → Searched t w w′ trace trace′ v → Low (verdictFigures v)
+low-verdict {t} {w} {w′} {trace} {trace′} (Unsafe l n) x =
+    record {
+      L = (let a = unsafe-room (system t) (x .verdict) in omega (arith, slots-few w trace));
+      N = λ h. (let a = x .most in omega (arith, slots-few w trace));
+    }
+low-verdict {t} {w} {w′} {trace} {trace′} (Safe n) x = record { L = omega arith; N = λ h. (let a = x .most in omega (arith, slots-few w trace)) }
+low-verdict {t} {w} {w′} {trace} {trace′} (NoRoom n) x = record { L = omega arith; N = λ h. (let a = x .most in omega (arith, slots-few w trace)) }
+
+pub search-low : {q : ℕ} {t : Table} {w w′ trace trace′ : List ℕ} {f : Figures} → Search q t w w′ trace trace′ f → Low f
+search-low {q} x =
+    elim (decLt 0 q) [
+      | yes h ↦ rw (x .refused h .0) (record { L = omega arith; N = λ l. absurd (omega arith) })
+      | no h ↦ (let y = x .found (omega arith) in rw (y .is) (low-verdict (y .answer) (y .searched)))
+    ]

@@ -1,0 +1,21 @@
+-- The rule of the next submask, computed for every byte. Assumes nothing.
+use Prim.Native.Nat.{ℕ, zero, suc}
+use mathlib.Core.Path.{_≡_, refl}
+use mathlib.Core.Bool.{Bool, true, false, not, _&&_}
+use lib.Dec.{eqb}
+use Rattle.tasks.specs.Lists.{pick}
+use Rattle.search.specs.Masks.{all, submask, next, follows}
+
+abbrev pub same : Bool → Bool → Bool
+same true b = b
+same false b = not b
+
+-- from x on, the k numbers up to 256: exactly those that are due are submasks
+unfoldable pub checks : ℕ → ℕ → ℕ → ℕ → Bool
+checks zero free x due = eqb due 256
+checks (suc k) free x due =
+    same (submask free x) (eqb x due) && checks k free (suc x) (pick (eqb x due) (follows free x) due)
+
+pub every : all 256 (λ free. checks 256 free 0 0) ≡ true
+unfolding all submask next follows checks
+every = refl

@@ -1,0 +1,102 @@
+use Prim.Native.Nat.{_-_}
+use mathlib.Core.Path.{_≡_, refl, sym, _∙_}
+use lib.ListN.{length, getD}
+use Rattle.levels.specs.Index.{Walk}
+use Rattle.levels.proofs.Index.{walk-start, walk-next, walk-falls, walk-end}
+use Rattle.search.specs.Slot.{keyAt, bucketFor}
+use Rattle.search.proofs.KeyLaws.{Bytes, keys-same, keys-differ}
+use Rattle.search.proofs.IndexLaws.{keyed, held, not-held}
+use native.Mathlib.Omega.{arith}
+use borrow.Author.Needs.{needs}
+use Rattle.search.proofs.index.holds.Statement.{statement}
+use Rattle.search.proofs.index.holds.Tie as tie
+use Rattle.search.proofs.index.holds.Reads as reads
+use Rattle.search.proofs.index.holds.Lts as lts
+use Rattle.search.proofs.index.bucket.Reads as bucket-reads
+use Rattle.search.proofs.index.key_of.Reads as key-of-reads
+use Rattle.search.proofs.index.same_at.Reads as same-at-reads
+use Rattle.search.proofs.slots.link_of.Reads as link-of-reads
+
+abbrev Inv-loop : tie.InvT-loop
+Inv-loop work heads n key b cur₀ cur = Walk (bucketFor (length heads)) (keyAt work) n key cur
+
+abbrev μ-loop : tie.MeasureT-loop
+μ-loop work heads n key b cur₀ cur = cur
+
+key-of-requires : tie.Need-key-of-requires Inv-loop μ-loop
+key-of-requires c κs = search needs
+
+bucket-requires : tie.Need-bucket-requires Inv-loop μ-loop
+bucket-requires c κs = c .before .before .before .pre .some
+
+mul-cur : tie.Need-mul-cur Inv-loop μ-loop
+mul-cur c = search needs
+
+shared-slice-read-cur : tie.Need-shared-slice-read-cur Inv-loop μ-loop
+shared-slice-read-cur c = search needs
+
+cast-cur : tie.Need-cast-cur Inv-loop μ-loop
+cast-cur c = omega (arith, c .before .before .before .before .before .pre .index .head-low (c .before .bucket .result))
+
+loop-holds : tie.Need-loop-holds Inv-loop μ-loop
+loop-holds c =
+    let b = c .before in
+    rw (b .bucket .ensures .0) (walk-start (keyed (b .before .before .before .before .pre)) (b .before .key-of .result))
+
+sub-j : tie.Need-sub-j Inv-loop μ-loop
+sub-j c = search needs
+
+same-at-requires : tie.Need-same-at-requires Inv-loop μ-loop
+same-at-requires c κs = search needs
+
+bytes : (c : tie.Start Inv-loop μ-loop) → Bytes (c .args .s)
+bytes c = record { c-length = search needs; p-length = search needs; c-fits = λ k b. search needs; p-fits = λ k b. search needs }
+
+returns : tie.Need-returns Inv-loop μ-loop
+returns c =
+    let h = c .before .before in
+    let known = h .before .before .before .before .before .before in
+    let start = known .before in
+    let e = keys-same _ _ (sym (c .before .same-at .ensures) ∙ c .if1 .taken) in
+    held _ (start .args .s) _ (h .before .loop .cur - 1) (known .shared-slice-known .given) (bytes start) (omega (arith, h .before .loop .inv .low)) (e ∙ h .before .before .before .before .key-of .ensures)
+
+link-of-requires : tie.Need-link-of-requires Inv-loop μ-loop
+link-of-requires c κs = search needs
+
+loop-less : tie.Need-loop-less Inv-loop μ-loop
+loop-less c =
+    let l = c .before .before .before .before in
+    rw (c .link-of .ensures) (walk-falls (keyed (l .before .before .before .before .before .before .pre)) (l .before .before .before .key-of .result) (l .loop .cur) (omega arith) (l .loop .inv))
+
+loop-again : tie.Need-loop-again Inv-loop μ-loop
+loop-again c =
+    let l = c .before .before .before .before in
+    rw (c .link-of .ensures)
+    (walk-next (keyed (l .before .before .before .before .before .before .pre)) (l .before .before .before .key-of .result) (l .loop .cur) (omega arith) (l .loop .inv)
+    (keys-differ _ _ (sym (c .before .before .same-at .ensures) ∙ c .before .if1 .left)))
+
+returns-2 : tie.Need-returns-2 Inv-loop μ-loop
+returns-2 c =
+    let l = c .before in
+    let e : l .loop .cur ≡ 0 = omega arith in
+    not-held _ _ _ (rw (l .before .before .before .key-of .ensures) at (walk-end (rw e at (l .loop .inv))))
+
+pub holds-spec : {M : Type 1} → statement M
+holds-spec =
+    tie.close
+    (tie.spec
+    Inv-loop
+    μ-loop
+    key-of-requires
+    bucket-requires
+    mul-cur
+    shared-slice-read-cur
+    cast-cur
+    loop-holds
+    sub-j
+    same-at-requires
+    returns
+    link-of-requires
+    loop-less
+    loop-again
+    returns-2)

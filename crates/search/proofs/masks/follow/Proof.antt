@@ -1,0 +1,22 @@
+use mathlib.Core.Path.{_≡_, refl, ap, sym, _∙_}
+use native.Mathlib.Omega.{arith}
+use borrow.Author.Needs.{needs}
+use Rattle.search.specs.Masks.{follows}
+use Rattle.search.proofs.MaskLaws.{follows-end, follows-on}
+use Rattle.search.proofs.masks.follow.Statement.{statement}
+use Rattle.search.proofs.masks.follow.Tie as tie
+
+next-mask-requires : tie.Need-next-mask-requires
+next-mask-requires c κs = search needs
+
+cast-result : tie.Need-cast-result
+cast-result c = search needs
+
+returns : tie.Need-returns
+returns c = follows-end _ _ (sym (c .before .next-mask .ensures) ∙ c .if1 .taken)
+
+returns-2 : tie.Need-returns-2
+returns-2 c = follows-on _ _ (c .before .next-mask .ensures) (c .if1 .left)
+
+pub follow-spec : {M : Type 1} → statement M
+follow-spec = tie.close (tie.spec next-mask-requires cast-result returns returns-2)

@@ -1,0 +1,33 @@
+use mathlib.Core.Path.{_≡_, refl, sym, ap, _∙_}
+use Prim.Native.Nat.{ℕ, suc, _+_, _-_, _*_, _≤_, _<_}
+use Rattle.search.specs.Claim.{figures, Called}
+use Rattle.search.proofs.ClaimLaws.{search-low}
+use native.Mathlib.Omega.{arith}
+use borrow.Author.Needs.{needs}
+use Rattle.search.proofs.search.ronchhek_verdict.Statement.{statement}
+use Rattle.search.proofs.search.ronchhek_verdict.Tie as tie
+use Rattle.search.proofs.search.ronchhek_verdict.Reads as reads
+use Rattle.search.proofs.search.ronchhek_verdict.Lts as lts
+use Rattle.search.proofs.search.pack.Reads as pack-reads
+use Rattle.search.proofs.search.search_sheet.Reads as search-sheet-reads
+
+search-sheet-requires : tie.Need-search-sheet-requires
+search-sheet-requires c κs = search needs
+
+pack-requires : tie.Need-pack-requires
+pack-requires c κs = search-low (c .before .before .before .before .search-sheet .ensures)
+
+same-length : tie.Need-same-length
+same-length c = search needs
+
+same-length-2 : tie.Need-same-length-2
+same-length-2 c = search needs
+
+returns : tie.Need-returns
+returns c =
+    let p = c .pack .ensures in
+    record { answer = figures (c .before .before .before .before .before .search-sheet .result); search = c .before .before .before .before .before .search-sheet .ensures; is = p .0; L-fits = p .1; N-fits = p .2 }
+
+pub ronchhek-verdict-spec : {M : Type 1} → statement M
+ronchhek-verdict-spec =
+    tie.close (tie.spec search-sheet-requires pack-requires same-length same-length-2 returns)

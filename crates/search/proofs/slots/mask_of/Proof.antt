@@ -1,0 +1,23 @@
+use Rattle.search.specs.Slot.{maskAt}
+use native.Mathlib.Omega.{arith}
+use borrow.Author.Needs.{needs}
+use Rattle.search.proofs.slots.mask_of.Statement.{statement}
+use Rattle.search.proofs.slots.mask_of.Tie as tie
+use Rattle.search.proofs.slots.mask_of.Reads as reads
+use Rattle.search.proofs.slots.mask_of.Lts as lts
+
+mul-result : tie.Need-mul-result
+mul-result c = search needs
+
+add-result : tie.Need-add-result
+add-result c = search needs
+
+shared-slice-read-result : tie.Need-shared-slice-read-result
+shared-slice-read-result c = search needs
+
+returns : tie.Need-returns
+unfolding maskAt
+returns c = search needs
+
+pub mask-of-spec : {M : Type 1} → statement M
+mask-of-spec = tie.close (tie.spec mul-result add-result shared-slice-read-result returns)

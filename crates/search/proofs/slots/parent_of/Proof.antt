@@ -1,0 +1,27 @@
+use Rattle.search.specs.Slot.{parentAt}
+use native.Mathlib.Omega.{arith}
+use borrow.Author.Needs.{needs}
+use Rattle.search.proofs.slots.parent_of.Statement.{statement}
+use Rattle.search.proofs.slots.parent_of.Tie as tie
+use Rattle.search.proofs.slots.parent_of.Reads as reads
+use Rattle.search.proofs.slots.parent_of.Lts as lts
+use Rattle.search.proofs.slots.four_at.Reads as four-at-reads
+
+mul-four-at : tie.Need-mul-four-at
+mul-four-at c = search needs
+
+add-four-at : tie.Need-add-four-at
+add-four-at c = search needs
+
+four-at-requires : tie.Need-four-at-requires
+four-at-requires c κs = search needs
+
+cast-result : tie.Need-cast-result
+cast-result c = search needs
+
+returns : tie.Need-returns
+unfolding parentAt
+returns c = search needs
+
+pub parent-of-spec : {M : Type 1} → statement M
+parent-of-spec = tie.close (tie.spec mul-four-at add-four-at four-at-requires cast-result returns)

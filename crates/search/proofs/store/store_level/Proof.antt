@@ -1,0 +1,83 @@
+use mathlib.Core.Path.{_≡_, refl, sym, ap, _∙_}
+use Prim.Native.Nat.{ℕ, suc, _+_, _-_, _*_, _≤_, _<_}
+use lib.ListN.{length}
+use Rattle.search.specs.Keeping.{Level, LevelTo, RowDone, RowFull}
+use Rattle.search.proofs.StoreLaws.{level-start, level-ready, level-row, level-full, level-end}
+use native.Mathlib.Omega.{arith}
+use borrow.Author.Needs.{needs}
+use Rattle.search.proofs.store.store_level.Statement.{statement}
+use Rattle.search.proofs.store.store_level.Tie as tie
+use Rattle.search.proofs.store.store_level.Reads as reads
+use Rattle.search.proofs.store.store_level.Lts as lts
+use Rattle.search.proofs.store.store_row.Reads as store-row-reads
+
+abbrev Inv-loop : tie.InvT-loop
+Inv-loop t work₀ heads₀ k lo hi n₀ i₀ work heads n i = (i ≤ hi) × (length heads ≡ length heads₀) × LevelTo t work₀ work heads k lo hi n i
+
+abbrev μ-loop : tie.MeasureT-loop
+μ-loop t work₀ heads₀ k lo hi n₀ i₀ work heads n i = hi - i
+
+loop-holds : tie.Need-loop-holds Inv-loop μ-loop
+loop-holds c =
+    let r = c .before .before .pre in
+    (omega arith, refl, level-start (r .0) (r .2))
+
+store-row-requires : tie.Need-store-row-requires Inv-loop μ-loop
+store-row-requires c κs = level-ready (c .before .before .before .loop .inv .2) (c .before .before .before .before .before .before .pre .1) (c .before .before .loop-test .taken)
+
+enum-known-row : tie.Need-enum-known-row Inv-loop μ-loop
+enum-known-row c = search needs
+
+enum-told : tie.Need-enum-told Inv-loop μ-loop
+enum-told c = search needs
+
+same-length : tie.Need-same-length Inv-loop μ-loop
+same-length c = c .before .before .before .before .before .before .store-row .kept .1 .0 ∙ c .before .before .before .before .before .before .before .before .before .before .loop .inv .2 .kept .len
+
+same-length-2 : tie.Need-same-length-2 Inv-loop μ-loop
+same-length-2 c = c .before .before .before .before .before .before .store-row .kept .1 .1 .0 ∙ c .before .before .before .before .before .before .before .before .before .before .loop .inv .1
+
+returns : tie.Need-returns Inv-loop μ-loop
+returns c =
+    let y = rw (c .enum-told .given .1) at (c .before .before .before .before .before .before .store-row .ensures) in
+    level-full (c .before .before .before .before .before .before .before .before .before .before .loop .inv .2) (c .before .before .before .before .before .before .before .before .before .loop-test .taken) y
+
+add-i : tie.Need-add-i Inv-loop μ-loop
+add-i c = search needs
+
+loop-less : tie.Need-loop-less Inv-loop μ-loop
+loop-less c = search needs
+
+loop-again : tie.Need-loop-again Inv-loop μ-loop
+loop-again c =
+    let y = rw (c .before .row .given .1) at (c .before .before .before .before .before .before .before .store-row .ensures) in
+    (omega arith, c .before .before .before .before .before .before .before .store-row .kept .1 .1 .0 ∙ c .before .before .before .before .before .before .before .before .before .before .before .loop .inv .1, level-row (c .before .before .before .before .before .before .before .before .before .before .before .loop .inv .2) (c .before .before .before .before .before .before .before .before .before .before .loop-test .taken) y)
+
+same-length-3 : tie.Need-same-length-3 Inv-loop μ-loop
+same-length-3 c = c .before .loop .inv .2 .kept .len
+
+same-length-4 : tie.Need-same-length-4 Inv-loop μ-loop
+same-length-4 c = c .before .loop .inv .1
+
+returns-2 : tie.Need-returns-2 Inv-loop μ-loop
+returns-2 c = level-end (c .before .loop .inv .2) (c .loop-test .left)
+
+pub store-level-spec : {M : Type 1} → statement M
+store-level-spec =
+    tie.close
+    (tie.spec
+    Inv-loop
+    μ-loop
+    loop-holds
+    store-row-requires
+    enum-known-row
+    enum-told
+    same-length
+    same-length-2
+    returns
+    add-i
+    loop-less
+    loop-again
+    same-length-3
+    same-length-4
+    returns-2)

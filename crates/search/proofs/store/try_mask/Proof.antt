@@ -1,0 +1,87 @@
+use mathlib.Core.Path.{_≡_, refl, sym, ap, _∙_}
+use mathlib.Core.Bool.{true, false}
+use Rattle.search.specs.Slot.{HeldIs}
+use Rattle.search.specs.Keeping.{Room, Known, Added, Crowded}
+use native.Mathlib.Omega.{arith}
+use borrow.Author.Needs.{needs}
+use Rattle.search.proofs.store.try_mask.Statement.{statement}
+use Rattle.search.proofs.store.try_mask.Tie as tie
+use Rattle.search.proofs.store.try_mask.Reads as reads
+use Rattle.search.proofs.store.try_mask.Lts as lts
+use Rattle.search.proofs.index.holds.Reads as holds-reads
+use Rattle.search.proofs.index.push.Reads as push-reads
+use Rattle.tasks.proofs.state.State.advance.Reads as advance-reads
+
+advance-requires : tie.Need-advance-requires
+advance-requires c κs = search needs
+
+holds-requires : tie.Need-holds-requires
+holds-requires c κs = search needs
+
+same-length : tie.Need-same-length
+same-length c = search needs
+
+same-length-2 : tie.Need-same-length-2
+same-length-2 c = search needs
+
+returns : tie.Need-returns
+returns c =
+    record {
+      held = rw (c .before .before .before .before .advance .ensures) at (rw (c .if1 .taken) at (c .before .holds .ensures));
+      same = refl;
+      same-heads = refl;
+    }
+
+same-length-3 : tie.Need-same-length-3
+same-length-3 c = search needs
+
+same-length-4 : tie.Need-same-length-4
+same-length-4 c = search needs
+
+returns-2 : tie.Need-returns-2
+returns-2 c =
+    record {
+      full = c .if2 .taken;
+      absent = rw (c .before .before .before .before .before .advance .ensures) at (rw (c .before .if1 .left) at (c .before .before .holds .ensures));
+      same = refl;
+    }
+
+cast-push : tie.Need-cast-push
+cast-push c = search needs
+
+push-requires : tie.Need-push-requires
+push-requires c κs = search needs
+
+same-length-5 : tie.Need-same-length-5
+same-length-5 c = search needs
+
+same-length-6 : tie.Need-same-length-6
+same-length-6 c = search needs
+
+returns-3 : tie.Need-returns-3
+returns-3 c =
+    let ne = c .before .before .before .before .before .before .before .if2 .left in
+    let r = c .before .before .before .before .before .before .before .before .before .before .before .before .before .before .before .pre .0 .room in
+    record {
+      below = omega arith;
+      absent = rw (c .before .before .before .before .before .before .before .before .before .before .before .before .advance .ensures) at (rw (c .before .before .before .before .before .before .before .before .if1 .left) at (c .before .before .before .before .before .before .before .before .before .holds .ensures));
+      pushed = rw (c .before .before .before .before .before .before .before .before .before .before .before .before .advance .ensures) at (c .before .before .before .before .push .ensures);
+    }
+
+pub try-mask-spec : {M : Type 1} → statement M
+try-mask-spec =
+    tie.close
+    (tie.spec
+    advance-requires
+    holds-requires
+    same-length
+    same-length-2
+    returns
+    same-length-3
+    same-length-4
+    returns-2
+    cast-push
+    push-requires
+    same-length-5
+    same-length-6
+    returns-3)

@@ -1,0 +1,100 @@
+use mathlib.Core.Path.{_≡_, refl, sym, ap, _∙_}
+use Prim.Native.Nat.{ℕ, suc, _+_, _-_, _*_, _≤_, _<_}
+use mathlib.Core.List.{_++_}
+use lib.ListN.{length, drop, length-set}
+use Rattle.levels.specs.Levels.{trail}
+use Rattle.search.specs.Slot.{parentAt, maskAt}
+use Rattle.search.specs.Keeping.{TraceReady}
+use Rattle.search.proofs.TraceLaws.{trace-turn, trace-end}
+use native.Mathlib.Omega.{arith}
+use borrow.Author.Needs.{needs}
+use Rattle.search.proofs.trace.write_trace.Statement.{statement}
+use Rattle.search.proofs.trace.write_trace.Tie as tie
+use Rattle.search.proofs.trace.write_trace.Reads as reads
+use Rattle.search.proofs.trace.write_trace.Lts as lts
+use Rattle.search.proofs.slots.mask_of.Reads as mask-of-reads
+use Rattle.search.proofs.slots.parent_of.Reads as parent-of-reads
+
+abbrev Inv-loop : tie.InvT-loop
+Inv-loop work trace₀ i d m k₀ j₀ trace k j = (k ≤ d) × (length trace ≡ length trace₀) × (trail (parentAt work) (maskAt work) d i ++ drop d trace₀ ≡ trail (parentAt work) (maskAt work) k j ++ drop k trace) × ((n : ℕ) → ((q : ℕ) → q < n → parentAt work q < n) → i < n → j < n)
+
+abbrev μ-loop : tie.MeasureT-loop
+μ-loop work trace₀ i d m k₀ j₀ trace k j = k
+
+slice-write-trace : tie.Need-slice-write-trace Inv-loop μ-loop
+slice-write-trace c =
+    let h = c .before .before .pre .long in
+    omega arith
+
+loop-holds : tie.Need-loop-holds Inv-loop μ-loop
+loop-holds c = (omega arith, refl, refl, λ n low h. h)
+
+sub-k : tie.Need-sub-k Inv-loop μ-loop
+sub-k c = search needs
+
+mask-of-requires : tie.Need-mask-of-requires Inv-loop μ-loop
+mask-of-requires c κs =
+    let r = c .before .before .before .before .pre in
+    let h = c .before .loop .inv .3 (r .n) (r .low) (r .below) in
+    let f = r .fits in
+    omega arith
+
+slice-write-trace-2 : tie.Need-slice-write-trace-2 Inv-loop μ-loop
+slice-write-trace-2 c =
+    let a = c .before .before .before .before .before .args in
+    let r = c .before .before .before .before .before .pre in
+    let h = r .long in
+    omega (arith, length-set (a .trace .now) (a .d) (a .m))
+
+parent-of-requires : tie.Need-parent-of-requires Inv-loop μ-loop
+parent-of-requires c κs =
+    let r = c .before .before .before .before .before .pre in
+    let h = c .before .before .loop .inv .3 (r .n) (r .low) (r .below) in
+    let f = r .fits in
+    omega arith
+
+loop-less : tie.Need-loop-less Inv-loop μ-loop
+loop-less c = search needs
+
+loop-again : tie.Need-loop-again Inv-loop μ-loop
+loop-again c =
+    let a = c .before .before .before .before .before .before .args in
+    let r = c .before .before .before .before .before .before .pre in
+    let long = r .long in
+    let h = c .before .before .before .loop in (
+      omega arith,
+      length-set (h .trace) (h .k - 1) (c .before .mask-of .result) ∙ h .inv .1,
+      rw (c .parent-of .ensures, c .before .mask-of .ensures)
+          (trace-turn (a .work .now) (h .trace) _ (h .k) (h .j) (omega arith) (omega (arith, length-set (a .trace .now) (a .d) (a .m))) (h .inv .2)),
+      λ n low b. rw (c .parent-of .ensures) (low (h .j) (h .inv .3 n low b)),
+    )
+
+same-length : tie.Need-same-length Inv-loop μ-loop
+same-length c =
+    let a = c .before .before .before .before .args in
+    c .before .loop .inv .1 ∙ length-set (a .trace .now) (a .d) (a .m)
+
+returns : tie.Need-returns Inv-loop μ-loop
+returns c =
+    let a = c .before .before .before .before .args in
+    let r = c .before .before .before .before .pre in
+    let h = c .before .loop in
+    let e : h .k ≡ 0 = omega arith in
+    trace-end (a .work .now) (a .trace .now) _ (h .trace) (a .i) (a .d) (a .m) (h .j) (r .long) refl (rw e at (h .inv .2))
+
+pub write-trace-spec : {M : Type 1} → statement M
+write-trace-spec =
+    tie.close
+    (tie.spec
+    Inv-loop
+    μ-loop
+    slice-write-trace
+    loop-holds
+    sub-k
+    mask-of-requires
+    slice-write-trace-2
+    parent-of-requires
+    loop-less
+    loop-again
+    same-length
+    returns)

@@ -1,0 +1,121 @@
+-- What a search answers and leaves: demand 3, the slots, the trace and the refusals (document 01, "The search" and "Refusals by cause").
+-- This is the file to believe, with Verdict.antt and Slots.antt of `levels`, System.antt, and the slot's bytes in Slot.antt.
+use mathlib.Core.Path.{_≡_}
+use mathlib.Core.List.{List}
+use Prim.Native.Nat.{ℕ, _+_, _*_, _/_, _^_, _≤_, _<_, min}
+use lib.Dec.{eqb, ltb}
+use lib.ListN.{length, take, drop}
+use Rattle.tasks.specs.Lists.{pick}
+use Rattle.tasks.specs.Table.{tableFault}
+use Rattle.tasks.specs.Sheet.{sheetOf}
+use Rattle.tasks.specs.declared.table.Table.{Table}
+use Rattle.tasks.specs.declared.sheet.Reading.{Reading}
+use Rattle.tasks.specs.declared.sheet.Reading.the-variants as Reading
+use Rattle.tasks.specs.declared.sheet.Sheet.{Sheet}
+use Rattle.levels.specs.Verdict.{Answer, Verdict}
+use Rattle.levels.specs.Verdict.Answer.{Unsafe, Safe, NoRoom}
+use Rattle.levels.specs.Slots.{SlotRule, Stored, Complete, countOf, masksOf}
+use Rattle.search.specs.System.{system}
+use Rattle.search.specs.Slot.{stateAt, parentAt, maskAt, Formed}
+use Rattle.search.specs.declared.run.SearchAnswer.{SearchAnswer}
+use Rattle.search.specs.declared.run.SearchAnswer.the-variants as SearchAnswer
+
+-- ---- K and the refusals
+
+-- K: "work length divided by 24, rounded down, at most 1,000,000"
+unfoldable pub slotsIn : List ℕ → ℕ
+slotsIn work = min (length work / 24) 1000000
+
+-- 9 where K is 0, 10 where the trace space is shorter than K, and 0 where the spaces will do
+unfoldable pub spacesRefusal : List ℕ → List ℕ → ℕ
+spacesRefusal work trace = pick (eqb (slotsIn work) 0) 9 (pick (ltb (length trace) (slotsIn work)) 10 0)
+
+-- a search of a table: 4 to 7, then 9 and 10; 0 where it is not refused
+unfoldable pub tableRefusal : Table → List ℕ → List ℕ → ℕ
+tableRefusal t work trace = pick (ltb 0 (tableFault t)) (tableFault t) (spacesRefusal work trace)
+
+-- a search of a sheet: 1 to 8, then 9 and 10
+abbrev pub afterReading : Reading → ℕ → ℕ
+afterReading Reading.Accepted rest = rest
+afterReading (Reading.Refused r) rest = r
+
+unfoldable pub sheetRefusal : List ℕ → List ℕ → List ℕ → ℕ
+sheetRefusal sheet work trace = afterReading (sheetOf sheet .answer) (spacesRefusal work trace)
+
+-- ---- an answer's figures
+
+-- "kind 1 Safe, 2 Unsafe, 3 No room, 0 refused. L is 0 unless Unsafe; under 0, N is the refusal number"
+pub record Figures : Type 0 where
+  pub kind : ℕ
+  pub L : ℕ
+  pub N : ℕ
+
+-- those of each case of the answer
+abbrev pub figures : SearchAnswer → Figures
+figures (SearchAnswer.Safe n) = record { kind = 1; L = 0; N = n }
+figures (SearchAnswer.Unsafe l n) = record { kind = 2; L = l; N = n }
+figures (SearchAnswer.NoRoom n) = record { kind = 3; L = 0; N = n }
+figures (SearchAnswer.Refused r) = record { kind = 0; L = 0; N = r }
+
+-- of a verdict of demand 3
+abbrev pub verdictFigures : Answer → Figures
+verdictFigures (Safe n) = record { kind = 1; L = 0; N = n }
+verdictFigures (Unsafe l n) = record { kind = 2; L = l; N = n }
+verdictFigures (NoRoom n) = record { kind = 3; L = 0; N = n }
+
+-- of a refusal
+abbrev pub refusalFigures : ℕ → Figures
+refusalFigures r = record { kind = 0; L = 0; N = r }
+
+-- "kind × 2^48 + L × 2^24 + N"
+unfoldable pub packed : Figures → ℕ
+packed f = f .kind * 2 ^ 48 + f .L * 2 ^ 24 + f .N
+
+-- ---- the one claim
+
+-- a verdict of a table, from what the two spaces held to what they hold. K is that of the work space
+pub record Searched (t : Table) (work work′ trace trace′ : List ℕ) (a : Answer) : Type 0 where
+  -- demand 3 in full; under Unsafe the masks given are the first L bytes of the trace space
+  pub verdict : Verdict (system t) (slotsIn work) a (take (masksOf a) trace′)
+  -- "the written slots are the first N", which the work space has: slot 0 the start state with parent 0 and mask 0, any other from an earlier slot by a tick
+  pub rule : SlotRule (system t) (stateAt work′) (parentAt work′) (maskAt work′) 0 (countOf a)
+  pub most : countOf a ≤ slotsIn work
+  -- "each a state reached without a miss, no two the same"
+  pub stored : Stored (system t) (stateAt work′) (countOf a)
+  -- "under Safe they are all such states, under Unsafe all those reached in at most L-1 ticks"
+  pub complete : Complete (system t) (stateAt work′) a
+  -- each has the 24 bytes of a slot: state, parent, mask, three zero bytes
+  pub formed : (i : ℕ) → i < countOf a → Formed work′ i
+  -- "every later work byte stays"
+  pub work-rest : drop (24 * countOf a) work′ ≡ drop (24 * countOf a) work
+  pub work-length : length work′ ≡ length work
+  -- "Unsafe writes L masks at the front of the trace space; the rest stays. Safe and No room do not touch it"
+  pub trace-rest : drop (masksOf a) trace′ ≡ drop (masksOf a) trace
+  pub trace-length : length trace′ ≡ length trace
+
+-- a verdict by its figures
+pub record Found (t : Table) (work work′ trace trace′ : List ℕ) (f : Figures) : Type 0 where
+  pub answer : Answer
+  pub is : f ≡ verdictFigures answer
+  pub searched : Searched t work work′ trace trace′ answer
+
+-- a search that has this refusal, 0 for none: "its refusals leave work and trace"
+pub record Search (refusal : ℕ) (t : Table) (work work′ trace trace′ : List ℕ) (f : Figures) : Type 0 where
+  pub refused : 0 < refusal → (f ≡ refusalFigures refusal) × (work′ ≡ work) × (trace′ ≡ trace)
+  pub found : refusal ≡ 0 → Found t work work′ trace trace′ f
+
+-- the search of a table
+abbrev pub TableSearch : Table → List ℕ → List ℕ → List ℕ → List ℕ → Figures → Type 0
+TableSearch t work work′ trace trace′ f = Search (tableRefusal t work trace) t work work′ trace trace′ f
+
+-- the search of a sheet
+abbrev pub SheetSearch : List ℕ → List ℕ → List ℕ → List ℕ → List ℕ → Figures → Type 0
+SheetSearch sheet work work′ trace trace′ f = Search (sheetRefusal sheet work trace) (sheetOf sheet .table) work work′ trace trace′ f
+
+-- the C call: the number that it returns has the figures of the search of the sheet, each in its own bits
+pub record Called (sheet work work′ trace trace′ : List ℕ) (number : ℕ) : Type 0 where
+  pub answer : Figures
+  pub search : SheetSearch sheet work work′ trace trace′ answer
+  pub is : number ≡ packed answer
+  pub L-fits : answer .L < 2 ^ 24
+  pub N-fits : answer .N < 2 ^ 24

@@ -1,0 +1,131 @@
+-- The slots of the work space (document 01, "The search") and, no part of the paper, the index over them.
+use mathlib.Core.Path.{_≡_}
+use mathlib.Core.Bool.{Bool, true, false, _&&_}
+use mathlib.Core.List.{List, [], _∷_, _++_}
+use Prim.Native.Nat.{ℕ, zero, suc, _+_, _-_, _*_, _/_, _%_, _<_, _≤_}
+use lib.Bits.{bitAnd}
+use lib.Dec.{eqb}
+use lib.ListN.{length, getD, take, drop, set}
+use Rattle.tasks.specs.Lists.{eight}
+use Rattle.tasks.specs.declared.state.State.{State}
+use Rattle.levels.specs.Index.{Index}
+use Rattle.levels.specs.Verdict.{Holds}
+use Rattle.search.specs.declared.index.Key.{Key}
+
+-- ---- what a slot holds
+
+-- the number of four bytes, low byte first
+abbrev pub four : ℕ → ℕ → ℕ → ℕ → ℕ
+four x y z u = x + 256 * y + 65536 * z + 16777216 * u
+
+-- the number in the four bytes from a on
+unfoldable pub fourAt : List ℕ → ℕ → ℕ
+fourAt w a = four (getD w a 0) (getD w (a + 1) 0) (getD w (a + 2) 0) (getD w (a + 3) 0)
+
+-- "16 state bytes (c, p of task 1, then task 2 and so on)"
+unfoldable pub stateAt : List ℕ → ℕ → State
+stateAt w i = record { c = eight (λ k. getD w (24 * i + 2 * k) 0); p = eight (λ k. getD w (24 * i + 2 * k + 1) 0) }
+
+-- "the parent slot in 4 bytes low byte first"
+unfoldable pub parentAt : List ℕ → ℕ → ℕ
+parentAt w i = fourAt w (24 * i + 16)
+
+-- "the mask"
+unfoldable pub maskAt : List ℕ → ℕ → ℕ
+maskAt w i = getD w (24 * i + 20) 0
+
+-- the link, which stands in the three last bytes while the search runs
+unfoldable pub linkAt : List ℕ → ℕ → ℕ
+linkAt w i = getD w (24 * i + 21) 0 + 256 * getD w (24 * i + 22) 0 + 65536 * getD w (24 * i + 23) 0
+
+-- ---- the 24 bytes of a slot
+
+-- f 0, g 0, f 1, g 1, .. : k of each
+abbrev pub twos : ℕ → (ℕ → ℕ) → (ℕ → ℕ) → List ℕ
+twos zero f g = []
+twos (suc k) f g = f 0 ∷ g 0 ∷ twos k (λ j. f (suc j)) (λ j. g (suc j))
+
+unfoldable pub stateBytes : State → List ℕ
+stateBytes s = twos 8 (λ k. getD (s .c) k 0) (λ k. getD (s .p) k 0)
+
+-- what follows the state: the parent, the mask, and three bytes more
+abbrev pub restBytes : ℕ → ℕ → ℕ → ℕ → ℕ → List ℕ
+restBytes parent mask x y z = parent % 256 ∷ parent / 256 % 256 ∷ parent / 65536 % 256 ∷ parent / 16777216 % 256 ∷ mask ∷ x ∷ y ∷ z ∷ []
+
+-- the paper's slot, whose three last bytes are 0
+unfoldable pub slotBytes : State → ℕ → ℕ → List ℕ
+slotBytes s parent mask = stateBytes s ++ restBytes parent mask 0 0 0
+
+-- the slot while the search runs
+unfoldable pub linkedBytes : State → ℕ → ℕ → ℕ → List ℕ
+linkedBytes s parent mask link = stateBytes s ++ restBytes parent mask (link % 256) (link / 256 % 256) (link / 65536 % 256)
+
+-- slot i is as the paper says
+abbrev pub Formed : List ℕ → ℕ → Type 0
+Formed w i = take 24 (drop (24 * i) w) ≡ slotBytes (stateAt w i) (parentAt w i) (maskAt w i)
+
+-- ---- the links cleared
+
+unfoldable pub unlinked : List ℕ → ℕ → List ℕ
+unlinked w i = set (set (set w (24 * i + 21) 0) (24 * i + 22) 0) (24 * i + 23) 0
+
+-- w′ is w with the first n slots as the paper says
+pub record Cleared (w w′ : List ℕ) (n : ℕ) : Type 0 where
+  pub len : length w′ ≡ length w
+  pub states : (j : ℕ) → j < n → stateAt w′ j ≡ stateAt w j
+  pub parents : (j : ℕ) → j < n → parentAt w′ j ≡ parentAt w j
+  pub masks : (j : ℕ) → j < n → maskAt w′ j ≡ maskAt w j
+  pub formed : (j : ℕ) → j < n → Formed w′ j
+  pub later : drop (24 * n) w′ ≡ drop (24 * n) w
+
+-- ---- the index: only the search's bookkeeping
+
+-- a state's sixteen bytes as four numbers; word k has those of tasks 2k and 2k + 1, counted from 0
+unfoldable pub wordOf : State → ℕ → ℕ
+wordOf s k = four (getD (s .c) (2 * k) 0) (getD (s .p) (2 * k) 0) (getD (s .c) (2 * k + 1) 0) (getD (s .p) (2 * k + 1) 0)
+
+unfoldable pub keyOf : State → Key
+keyOf s = record { a = wordOf s 0; b = wordOf s 1; c = wordOf s 2; d = wordOf s 3 }
+
+-- the key of the state in slot i
+unfoldable pub keyAt : List ℕ → ℕ → Key
+keyAt w i = record { a = fourAt w (24 * i); b = fourAt w (24 * i + 4); c = fourAt w (24 * i + 8); d = fourAt w (24 * i + 12) }
+
+unfoldable pub sameKeys : Key → Key → Bool
+sameKeys k l = ((eqb (k .a) (l .a) && eqb (k .b) (l .b)) && eqb (k .c) (l .c)) && eqb (k .d) (l .d)
+
+-- a sum in which every byte of the key counts
+unfoldable pub mixed : Key → ℕ
+mixed k = 625341585 * k .a + 1013904223 * k .b + 668265261 * k .c + 374761393 * k .d
+
+-- .. whose halves are added, and cut to the number of buckets, a power of two
+unfoldable pub bucketFor : ℕ → Key → ℕ
+bucketFor size k = bitAnd (mixed k / 4294967296 + mixed k % 4294967296) (size - 1)
+
+unfoldable pub bucketOf : ℕ → State → ℕ
+bucketOf size s = bucketFor size (keyOf s)
+
+-- the first n slots of w are indexed by heads and by their links
+pub record Indexed (w heads : List ℕ) (n : ℕ) : Type 0 where
+  pub some : 0 < length heads
+  pub few : n ≤ 1000000
+  pub fits : 24 * n ≤ length w
+  pub index : Index (bucketOf (length heads)) (stateAt w) (λ b. getD heads b 0) (linkAt w) n
+
+-- true where one of the first n slots holds s, false where none does
+abbrev pub HeldIs : List ℕ → ℕ → State → Bool → Type 0
+HeldIs w n s true = Holds (stateAt w) n s
+HeldIs w n s false = Holds (stateAt w) n s → ⊥
+
+-- w′ and heads′ are w and heads with slot n written, and those before it stay
+pub record Pushed (w w′ heads heads′ : List ℕ) (n : ℕ) (s : State) (parent mask : ℕ) : Type 0 where
+  pub len : length w′ ≡ length w
+  pub heads-len : length heads′ ≡ length heads
+  pub states : (j : ℕ) → j < n → stateAt w′ j ≡ stateAt w j
+  pub parents : (j : ℕ) → j < n → parentAt w′ j ≡ parentAt w j
+  pub masks : (j : ℕ) → j < n → maskAt w′ j ≡ maskAt w j
+  pub state : stateAt w′ n ≡ s
+  pub parent-is : parentAt w′ n ≡ parent
+  pub mask-is : maskAt w′ n ≡ mask
+  pub later : drop (24 * (n + 1)) w′ ≡ drop (24 * (n + 1)) w
+  pub indexed : Indexed w′ heads′ (n + 1)

@@ -1,0 +1,40 @@
+// The hunt through a level's slots and their legal masks, which stops on its first miss.
+ghost use mathlib.Core.Path.{_≡_};
+ghost use Prim.Native.Nat.{_≤_};
+ghost use Rattle.search.specs.Keeping.{Level, Hunted};
+use crate::masks::follow;
+use crate::masks::free_mask;
+use crate::slots::load;
+use tasks::State;
+use tasks::Table;
+
+// What a hunt finds: a slot and a mask that misses from it.
+pub(crate) enum HuntAnswer {
+    Miss(usize, u8),
+    Clear,
+}
+
+// Tries the legal masks of every slot of the level for a miss.
+pub(crate) fn hunt(t: Table, work: &[u8], lo: usize, hi: usize) -> HuntAnswer
+    requires { ⌜ (lo ≤ hi) × Level t (now work) hi ⌝ }
+    ensures { λ r. ⌜ Hunted t (now (work .entry)) lo hi r ⌝ }
+{
+    let mut i = lo;
+    'hunt: loop {
+        if i == hi {
+            break 'hunt HuntAnswer::Clear;
+        }
+        let s = load(work, i);
+        let free = free_mask(t, s);
+        let mut m: u16 = 0;
+        while m < 256 {
+            let mask = m as u8;
+            let next = s.advance(t, mask);
+            if next.missed(t) {
+                break 'hunt HuntAnswer::Miss(i, mask);
+            }
+            m = follow(free, mask);
+        }
+        i += 1;
+    }
+}

@@ -1,0 +1,142 @@
+// The public calls: the search of a table, the search of a sheet, and the C call.
+ghost use mathlib.Core.Path.{_≡_};
+ghost use Prim.Native.Nat.{_/_, _^_, _<_, min};
+ghost use Rattle.tasks.specs.Table.{tableFault};
+ghost use Rattle.search.specs.Claim.{slotsIn, spacesRefusal, figures, Found, Search, TableSearch, SheetSearch, packed, Called};
+ghost use Rattle.search.specs.Keeping.{Lent, Spaces, Low};
+use crate::run::SearchAnswer;
+use crate::run::run_levels;
+use crate::slots::clear_links;
+use tasks::Reading;
+use tasks::Table;
+
+// How many slots a work space of this length has, at most 1,000,000.
+fn slots_in(length: usize) -> usize
+    ensures { λ r. ⌜ r ≡ min (length / 24) 1000000 ⌝ }
+{
+    let k = length / 24;
+    if 1000000 < k { 1000000 } else { k }
+}
+
+// The count that an answer reports, or the refusal's number.
+fn count_of(a: SearchAnswer) -> usize
+    ensures { λ r. ⌜ r ≡ figures a .N ⌝ }
+{
+    match a {
+        SearchAnswer::Safe(n) => n,
+        SearchAnswer::Unsafe(_, n) => n,
+        SearchAnswer::NoRoom(n) => n,
+        SearchAnswer::Refused(r) => r as usize,
+    }
+}
+
+// Searches with the heads given, and clears the links that the slots held meanwhile.
+fn search_with(
+    t: Table,
+    work: &mut [u8],
+    trace: &mut [u8],
+    heads: &mut [u32],
+    k: usize,
+) -> SearchAnswer
+    requires { ⌜ Spaces t (now work) (now trace) (now heads) k × (k ≡ slotsIn (now work)) ⌝ }
+    ensures { λ r. ⌜ Found t (now (work .entry)) (now (work .exit)) (now (trace .entry)) (now (trace .exit)) (figures r) ⌝ }
+{
+    let a = run_levels(t, work, trace, heads, k);
+    let n = count_of(a);
+    clear_links(work, n);
+    a
+}
+
+// Up to 16,384 slots: 16 KB of heads on the stack.
+fn search_small(t: Table, work: &mut [u8], trace: &mut [u8], k: usize) -> SearchAnswer
+    requires { ⌜ Lent t (now work) (now trace) k ⌝ }
+    ensures { λ r. ⌜ Found t (now (work .entry)) (now (work .exit)) (now (trace .entry)) (now (trace .exit)) (figures r) ⌝ }
+{
+    let mut heads = [0u32; 4096];
+    search_with(t, work, trace, &mut heads, k)
+}
+
+// Up to 262,144 slots: 256 KB of heads.
+fn search_medium(t: Table, work: &mut [u8], trace: &mut [u8], k: usize) -> SearchAnswer
+    requires { ⌜ Lent t (now work) (now trace) k ⌝ }
+    ensures { λ r. ⌜ Found t (now (work .entry)) (now (work .exit)) (now (trace .entry)) (now (trace .exit)) (figures r) ⌝ }
+{
+    let mut heads = [0u32; 65536];
+    search_with(t, work, trace, &mut heads, k)
+}
+
+// Up to 1,000,000 slots: 1 MB of heads.
+fn search_large(t: Table, work: &mut [u8], trace: &mut [u8], k: usize) -> SearchAnswer
+    requires { ⌜ Lent t (now work) (now trace) k ⌝ }
+    ensures { λ r. ⌜ Found t (now (work .entry)) (now (work .exit)) (now (trace .entry)) (now (trace .exit)) (figures r) ⌝ }
+{
+    let mut heads = [0u32; 262144];
+    search_with(t, work, trace, &mut heads, k)
+}
+
+// The search of a valid table.
+fn search_valid(t: Table, work: &mut [u8], trace: &mut [u8]) -> SearchAnswer
+    requires { ⌜ tableFault t ≡ 0 ⌝ }
+    ensures { λ r. ⌜ Search (spacesRefusal (now (work .entry)) (now (trace .entry))) t (now (work .entry)) (now (work .exit)) (now (trace .entry)) (now (trace .exit)) (figures r) ⌝ }
+{
+    let k = slots_in(work.len());
+    if k == 0 {
+        return SearchAnswer::Refused(9);
+    }
+    if trace.len() < k {
+        return SearchAnswer::Refused(10);
+    }
+    if k <= 16384 {
+        return search_small(t, work, trace, k);
+    }
+    if k <= 262144 {
+        return search_medium(t, work, trace, k);
+    }
+    search_large(t, work, trace, k)
+}
+
+// The search of a table.
+pub fn search_table(t: Table, work: &mut [u8], trace: &mut [u8]) -> SearchAnswer
+    ensures { λ r. ⌜ TableSearch t (now (work .entry)) (now (work .exit)) (now (trace .entry)) (now (trace .exit)) (figures r) ⌝ }
+{
+    let fault = t.fault();
+    if 0 < fault {
+        return SearchAnswer::Refused(fault);
+    }
+    search_valid(t, work, trace)
+}
+
+// The search of a sheet's table.
+pub fn search_sheet(sheet: &[u8], work: &mut [u8], trace: &mut [u8]) -> SearchAnswer
+    ensures { λ r. ⌜ SheetSearch (now (sheet .entry)) (now (work .entry)) (now (work .exit)) (now (trace .entry)) (now (trace .exit)) (figures r) ⌝ }
+{
+    let read = tasks::read_sheet(sheet);
+    let answer = read.answer;
+    let t = read.table;
+    match answer {
+        Reading::Accepted => search_valid(t, work, trace),
+        Reading::Refused(number) => SearchAnswer::Refused(number),
+    }
+}
+
+// An answer's figures in one number: kind × 2^48 + L × 2^24 + N.
+fn pack(a: SearchAnswer) -> u64
+    requires { ⌜ Low (figures a) ⌝ }
+    ensures { λ r. ⌜ (r ≡ packed (figures a)) × (figures a .L < 2 ^ 24) × (figures a .N < 2 ^ 24) ⌝ }
+{
+    match a {
+        SearchAnswer::Safe(n) => 281474976710656 + (n as u64),
+        SearchAnswer::Unsafe(l, n) => 562949953421312 + 16777216 * (l as u64) + (n as u64),
+        SearchAnswer::NoRoom(n) => 844424930131968 + (n as u64),
+        SearchAnswer::Refused(r) => r as u64,
+    }
+}
+
+// The search of a sheet's table for a C program: the answer's figures in one number.
+#[no_mangle]
+pub extern "C" fn ronchhek_verdict(sheet: &[u8], work: &mut [u8], trace: &mut [u8]) -> u64
+    ensures { λ r. ⌜ Called (now (sheet .entry)) (now (work .entry)) (now (work .exit)) (now (trace .entry)) (now (trace .exit)) r ⌝ }
+{
+    let a = search_sheet(sheet, work, trace);
+    pack(a)
+}

@@ -1,0 +1,115 @@
+// The slots of the work space: read, written, and their links cleared.
+ghost use mathlib.Core.Path.{_≡_};
+ghost use mathlib.Core.List.{_++_};
+ghost use Prim.Native.Nat.{_+_, _*_, _<_, _≤_};
+ghost use lib.ListN.{length, drop};
+ghost use Rattle.search.specs.Slot.{four, fourAt, stateAt, parentAt, maskAt, linkAt, linkedBytes, unlinked, Cleared};
+use tasks::State;
+
+// The byte as a number that an index or a sum can hold.
+fn wide(x: u8) -> usize
+    ensures { λ r. ⌜ (r ≡ x) × (r < 256) ⌝ }
+{
+    x as usize
+}
+
+// The number of four bytes, low byte first.
+pub(crate) fn joined(x: u8, y: u8, z: u8, u: u8) -> u32
+    ensures { λ r. ⌜ r ≡ four x y z u ⌝ }
+{
+    (x as u32) + 256 * (y as u32) + 65536 * (z as u32) + 16777216 * (u as u32)
+}
+
+// The number in the four bytes from `at` on.
+pub(crate) fn four_at(work: &[u8], at: usize) -> u32
+    requires { ⌜ at + 4 ≤ length (now work) ⌝ }
+    ensures { λ r. ⌜ r ≡ fourAt (now (work .entry)) at ⌝ }
+{
+    joined(work[at], work[at + 1], work[at + 2], work[at + 3])
+}
+
+// The state in slot i.
+pub(crate) fn load(work: &[u8], i: usize) -> State
+    requires { ⌜ 24 * i + 24 ≤ length (now work) ⌝ }
+    ensures { λ r. ⌜ r ≡ stateAt (now (work .entry)) i ⌝ }
+{
+    let at = 24 * i;
+    let mut c = [0u8; 8];
+    let mut p = [0u8; 8];
+    let mut k: usize = 0;
+    while k < 8 {
+        c[k] = work[at + 2 * k];
+        p[k] = work[at + 2 * k + 1];
+        k += 1;
+    }
+    State { c, p }
+}
+
+// The parent of slot i.
+pub(crate) fn parent_of(work: &[u8], i: usize) -> usize
+    requires { ⌜ 24 * i + 24 ≤ length (now work) ⌝ }
+    ensures { λ r. ⌜ r ≡ parentAt (now (work .entry)) i ⌝ }
+{
+    four_at(work, 24 * i + 16) as usize
+}
+
+// The mask of slot i.
+pub(crate) fn mask_of(work: &[u8], i: usize) -> u8
+    requires { ⌜ 24 * i + 24 ≤ length (now work) ⌝ }
+    ensures { λ r. ⌜ r ≡ maskAt (now (work .entry)) i ⌝ }
+{
+    work[24 * i + 20]
+}
+
+// The link of slot i.
+pub(crate) fn link_of(work: &[u8], i: usize) -> usize
+    requires { ⌜ 24 * i + 24 ≤ length (now work) ⌝ }
+    ensures { λ r. ⌜ r ≡ linkAt (now (work .entry)) i ⌝ }
+{
+    let at = 24 * i;
+    wide(work[at + 21]) + 256 * wide(work[at + 22]) + 65536 * wide(work[at + 23])
+}
+
+// Writes a slot, with its link, at the front of the part that is lent.
+pub(crate) fn put(part: &mut [u8], s: State, parent: u32, mask: u8, link: u32)
+    requires { ⌜ 24 ≤ length (now part) ⌝ }
+    ensures { λ _. ⌜ now (part .exit) ≡ linkedBytes s parent mask link ++ drop 24 (now (part .entry)) ⌝ }
+{
+    let mut k: usize = 0;
+    while k < 8 {
+        part[2 * k] = s.c[k];
+        part[2 * k + 1] = s.p[k];
+        k += 1;
+    }
+    part[16] = (parent % 256) as u8;
+    part[17] = (parent / 256 % 256) as u8;
+    part[18] = (parent / 65536 % 256) as u8;
+    part[19] = (parent / 16777216 % 256) as u8;
+    part[20] = mask;
+    part[21] = (link % 256) as u8;
+    part[22] = (link / 256 % 256) as u8;
+    part[23] = (link / 65536 % 256) as u8;
+}
+
+// Clears the link of slot i.
+fn clear_link(work: &mut [u8], i: usize)
+    requires { ⌜ 24 * i + 24 ≤ length (now work) ⌝ }
+    ensures { λ _. ⌜ now (work .exit) ≡ unlinked (now (work .entry)) i ⌝ }
+{
+    let at = 24 * i;
+    work[at + 21] = 0;
+    work[at + 22] = 0;
+    work[at + 23] = 0;
+}
+
+// Clears the links of the first n slots, which are then as the paper says.
+pub(crate) fn clear_links(work: &mut [u8], n: usize)
+    requires { ⌜ 24 * n ≤ length (now work) ⌝ }
+    ensures { λ _. ⌜ Cleared (now (work .entry)) (now (work .exit)) n ⌝ }
+{
+    let mut i: usize = 0;
+    while i < n {
+        clear_link(work, i);
+        i += 1;
+    }
+}

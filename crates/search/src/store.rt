@@ -1,0 +1,112 @@
+// Storing the successors of a level's slots, each state once.
+ghost use mathlib.Core.Path.{_≡_};
+ghost use Prim.Native.Nat.{_≤_, _<_};
+ghost use Rattle.tasks.specs.Tick.{after};
+ghost use Rattle.search.specs.Keeping.{Room, Level, Attempted, RowReady, RowIs, LevelIs};
+use crate::index::holds;
+use crate::index::push;
+use crate::masks::follow;
+use crate::masks::free_mask;
+use crate::slots::load;
+use tasks::State;
+use tasks::Table;
+
+// What becomes of a state under a mask: nothing new, a new slot, or no room for one.
+pub(crate) enum Attempt {
+    Nothing,
+    New,
+    Full,
+}
+
+// How far the slots are filled: up to a number, or there was no room.
+pub(crate) enum Filled {
+    Upto(usize),
+    Full,
+}
+
+// Stores what s, the state of slot i, leads to under a mask, where it is new.
+fn try_mask(
+    t: Table,
+    work: &mut [u8],
+    heads: &mut [u32],
+    s: State,
+    n: usize,
+    k: usize,
+    i: usize,
+    mask: u8,
+) -> Attempt
+    requires { ⌜ Room (now work) (now heads) n k × (i < n) ⌝ }
+    ensures { λ r. ⌜ Attempted (now (work .entry)) (now (work .exit)) (now (heads .entry)) (now (heads .exit)) n k (after t s mask) i mask r ⌝ }
+{
+    let next = s.advance(t, mask);
+    if holds(work, heads, n, next) {
+        return Attempt::Nothing;
+    }
+    if n == k {
+        return Attempt::Full;
+    }
+    push(work, heads, n, next, i as u32, mask);
+    Attempt::New
+}
+
+// Stores the successors of slot i under its legal masks that are new; n slots are filled before.
+fn store_row(
+    t: Table,
+    work: &mut [u8],
+    heads: &mut [u32],
+    k: usize,
+    from: usize,
+    i: usize,
+) -> Filled
+    requires { ⌜ RowReady t (now work) (now heads) k from i ⌝ }
+    ensures { λ r. ⌜ RowIs t (now (work .entry)) (now (work .exit)) (now (heads .exit)) k from i r ⌝ }
+{
+    let s = load(work, i);
+    let free = free_mask(t, s);
+    let mut n = from;
+    let mut m: u16 = 0;
+    while m < 256 {
+        let mask = m as u8;
+        let a = try_mask(t, work, heads, s, n, k, i, mask);
+        match a {
+            Attempt::Nothing => {}
+            Attempt::New => {
+                n += 1;
+            }
+            Attempt::Full => {
+                return Filled::Full;
+            }
+        }
+        m = follow(free, mask);
+    }
+    Filled::Upto(n)
+}
+
+// Stores the successors of the slots from lo to hi - 1 that are new.
+pub(crate) fn store_level(
+    t: Table,
+    work: &mut [u8],
+    heads: &mut [u32],
+    k: usize,
+    lo: usize,
+    hi: usize,
+) -> Filled
+    requires { ⌜ (lo ≤ hi) × Level t (now work) hi × Room (now work) (now heads) hi k ⌝ }
+    ensures { λ r. ⌜ LevelIs t (now (work .entry)) (now (work .exit)) (now (heads .exit)) k lo hi r ⌝ }
+{
+    let mut n = hi;
+    let mut i = lo;
+    while i < hi {
+        let row = store_row(t, work, heads, k, n, i);
+        match row {
+            Filled::Upto(more) => {
+                n = more;
+            }
+            Filled::Full => {
+                return Filled::Full;
+            }
+        }
+        i += 1;
+    }
+    Filled::Upto(n)
+}
