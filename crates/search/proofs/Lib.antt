@@ -3,3 +3,4 @@ pub mod SlotLaws
 pub mod ClearLaws
 pub mod KeyLaws
 pub mod IndexLaws
+pub mod CallLaws

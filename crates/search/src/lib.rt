@@ -1,3 +1,4 @@
-// The search: its slots in the work space, and the index over them.
+// The search: its slots in the work space, the index over them, and the replay for C.
 mod index;
+mod replays;
 mod slots;
