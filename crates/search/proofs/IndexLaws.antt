@@ -1,11 +1,11 @@
 -- The laws of the index over slots: it starts empty, is walked by keys, and grows by a pushed slot. Assumes nothing.
-use Prim.Native.Nat.{ℕ, suc, _+_, _*_, _≤_, _<_}
+use Prim.Native.Nat.{ℕ, zero, suc, _+_, _*_, _≤_, _<_}
 use mathlib.Core.Path.{_≡_, refl, sym, ap, _∙_}
 use mathlib.Core.Logic.{_≢_}
 use mathlib.Core.List.{List}
 use native.Mathlib.Omega.{arith}
 use native.Mathlib.Numerals.{add-one}
-use lib.ListN.{length, getD, set, length-set}
+use lib.ListN.{length, getD, set, replicate, length-set, length-replicate}
 use lib.Seq.{getD-set-same, getD-set-other}
 use mir.Syntax.{w8}
 use mir.Val.{Fits}
@@ -15,12 +15,21 @@ use Rattle.levels.specs.Verdict.{Holds}
 use Rattle.levels.proofs.Index.{index-start, index-push, walk-end}
 use Rattle.search.specs.declared.index.Key.{Key}
 use Rattle.search.specs.Slot.{stateAt, parentAt, maskAt, linkAt, keyOf, keyAt, bucketFor, bucketOf, Indexed, Pushed}
-use Rattle.search.proofs.SlotLaws.{same-state, same-parent, same-mask, withSlot, slot-long, slot-old, link-old, slot-state, slot-parent, slot-mask, slot-link, slot-later}
+use Rattle.search.proofs.SlotLaws.{same-state, same-parent, same-mask}
+use Rattle.search.proofs.SlotLaws.{withSlot, slot-long, slot-old, link-old, slot-state, slot-parent, slot-mask, slot-link, slot-later}
 use Rattle.search.proofs.KeyLaws.{key-at, Bytes, slot-bytes, one-state}
 
 -- no slot is written, and every head is 0
 pub indexed-start : (w heads : List ℕ) → 0 < length heads → ((b : ℕ) → getD heads b 0 ≡ 0) → Indexed w heads 0
 indexed-start w heads h zeros = record { some = h; few = omega arith; fits = omega arith; index = index-start zeros }
+
+zeros-at : (n b : ℕ) → getD {A = ℕ} (replicate n 0) b 0 ≡ 0
+zeros-at zero b = refl
+zeros-at (suc n) zero = refl
+zeros-at (suc n) (suc b) = zeros-at n b
+
+pub indexed-zeros : (w : List ℕ) (n : ℕ) → 0 < n → Indexed w (replicate n 0) 0
+indexed-zeros w n h = indexed-start w (replicate n 0) (rw (length-replicate {A = ℕ} n 0) h) (zeros-at n)
 
 -- ---- a walk by keys
 
@@ -55,7 +64,9 @@ not-held w s n none h = none (record { place = h .place; below = h .below; same 
 -- slot n goes to the front of the chain of its bucket b, and its link is the head that was there
 module _ {w heads : List ℕ} {n : ℕ} (x : Indexed w heads n) (s : State) (parent mask b : ℕ) (room : 24 * n + 24 ≤ length w) (few : n < 1000000)
     (bytes : Bytes s) (small : parent < 4294967296) (here : b ≡ bucketOf (length heads) s) (low : b < length heads) where
-  grown : Index (bucketOf (length heads)) (stateAt (withSlot w n s parent mask (getD heads b 0))) (λ j. getD (set heads b (n + 1)) j 0) (linkAt (withSlot w n s parent mask (getD heads b 0))) (n + 1)
+  grown :
+      Index (bucketOf (length heads)) (stateAt (withSlot w n s parent mask (getD heads b 0))) (λ j. getD (set heads b (n + 1)) j 0)
+      (linkAt (withSlot w n s parent mask (getD heads b 0))) (n + 1)
   grown =
       let link = getD heads b 0 in
       rw (add-one n)

@@ -12,3 +12,4 @@ pub mod TraceLaws
 pub mod RunLaws
 pub mod SheetLaws
 pub mod ClaimLaws
+pub mod CallLaws

@@ -10,6 +10,7 @@ use lib.Seq.{ext-getD, sets, sets-eq, take-all, drop-drop, length-take-le, getD-
 use Rattle.tasks.specs.Lists.{eight}
 use Rattle.tasks.specs.declared.state.State.{State}
 use Rattle.tasks.proofs.Fill.{eight-at, filled-end}
+use Rattle.tasks.proofs.Stores.{storing-start, storing-step}
 use Rattle.search.specs.Slot.{fourAt, stateAt, parentAt, maskAt, linkAt, twos, stateBytes, restBytes, linkedBytes}
 
 -- ---- slot i of w and slot i of w′ agree but for their links
@@ -17,7 +18,7 @@ use Rattle.search.specs.Slot.{fourAt, stateAt, parentAt, maskAt, linkAt,
 pub record Same (w w′ : List ℕ) (i : ℕ) : Type 0 where
   pub byte : (k : ℕ) → k < 21 → getD w′ (24 * i + k) 0 ≡ getD w (24 * i + k) 0
 
-pub eight-same : (f g : ℕ → ℕ) → ((k : ℕ) → k < 8 → f k ≡ g k) → eight f ≡ eight g
+eight-same : (f g : ℕ → ℕ) → ((k : ℕ) → k < 8 → f k ≡ g k) → eight f ≡ eight g
 eight-same f g h = filled-end {d = 0} (record { len = refl; done = λ k b. eight-at 0 f k b ∙ h k b }) (omega arith)
 
 module _ {w w′ : List ℕ} {i : ℕ} (same : Same w w′ i) where
@@ -42,9 +43,9 @@ module _ {w w′ : List ℕ} {i : ℕ} (same : Same w w′ i) where
 -- ---- the writer
 
 -- a run of stores in two parts
-sets-append : (l : List ℕ) (i : ℕ) (vs us : List ℕ) → sets l i (vs ++ us) ≡ sets (sets l i vs) (i + length vs) us
-sets-append l i [] us = rw add-zero
-sets-append l i (v ∷ vs) us = sets-append (set l i v) (suc i) vs us ∙ (let e : suc i + length vs ≡ i + suc (length vs) = omega arith in rw e)
+sets-append : (l a b : List ℕ) → length a + length b ≤ length l → sets l 0 (a ++ b) ≡ sets (sets l 0 a) (length a) b
+sets-append l a b h =
+    sym (storing-step a b (storing-start l 0 (a ++ b) (omega (arith, length-append a b))) {at′ = length a} refl (omega arith) .stored)
 
 twos-length : (k : ℕ) (f g : ℕ → ℕ) → length (twos k f g) ≡ 2 * k
 twos-length zero f g = refl
@@ -55,9 +56,11 @@ twos-more zero f g = refl
 twos-more (suc k) f g = ap (λ (l : List ℕ). f 0 ∷ g 0 ∷ l) (twos-more k (λ j. f (suc j)) (λ j. g (suc j)))
 
 -- one turn of the writer's loop
-pub put-turn : (l₀ l : List ℕ) (k : ℕ) (f g : ℕ → ℕ) → l ≡ sets l₀ 0 (twos k f g) → set (set l (2 * k) (f k)) (2 * k + 1) (g k) ≡ sets l₀ 0 (twos (k + 1) f g)
-put-turn l₀ l k f g e =
-    rw (add-one k, twos-more k f g, sets-append l₀ 0 (twos k f g), twos-length k f g, zero-add (2 * k), add-one (2 * k), e)
+pub put-turn :
+    (l₀ l : List ℕ) (k : ℕ) (f g : ℕ → ℕ) → 2 * k + 2 ≤ length l₀ → l ≡ sets l₀ 0 (twos k f g)
+    → set (set l (2 * k) (f k)) (2 * k + 1) (g k) ≡ sets l₀ 0 (twos (k + 1) f g)
+put-turn l₀ l k f g h e =
+    rw (add-one k, twos-more k f g, sets-append l₀ (twos k f g) (f k ∷ g k ∷ []) (omega (arith, twos-length k f g)), twos-length k f g, add-one (2 * k), e)
 
 state-length : (s : State) → length (stateBytes s) ≡ 16
 unfolding stateBytes
@@ -72,7 +75,7 @@ pub put-end : (l₀ l : List ℕ) (s : State) (parent mask link : ℕ) → 24 �
     → sets l 16 (restBytes parent mask (link % 256) (link / 256 % 256) (link / 65536 % 256)) ≡ linkedBytes s parent mask link ++ drop 24 l₀
 unfolding linkedBytes stateBytes
 put-end l₀ l s parent mask link h e =
-    (rw e (sym (sets-append l₀ 0 (stateBytes s) (restBytes parent mask (link % 256) (link / 256 % 256) (link / 65536 % 256)))))
+    (rw e (sym (sets-append l₀ (stateBytes s) (restBytes parent mask (link % 256) (link / 256 % 256) (link / 65536 % 256)) h)))
     ∙ sets-eq (linkedBytes s parent mask link) l₀ 0 (omega arith)
 
 -- ---- the slot in the work space
@@ -88,7 +91,13 @@ pub placed : (w : List ℕ) (n : ℕ) (s : State) (parent mask link : ℕ) (part
 unfolding withSlot
 placed w n s parent mask link part h e =
     let l : length (drop (24 * n) w) ≤ length w - 24 * n = simp length-drop (omega arith) in
-    rw (e, take-all (length w - 24 * n) (drop (24 * n) w) l, drop-of-length-le (drop (24 * n) w) l, append-nil (linkedBytes s parent mask link ++ drop 24 (drop (24 * n) w)), drop-drop 24 (24 * n) w)
+    rw (
+      e,
+      take-all (length w - 24 * n) (drop (24 * n) w) l,
+      drop-of-length-le (drop (24 * n) w) l,
+      append-nil (linkedBytes s parent mask link ++ drop 24 (drop (24 * n) w)),
+      drop-drop 24 (24 * n) w,
+    )
 
 twos-even : (k : ℕ) (f g : ℕ → ℕ) (j : ℕ) → j < k → getD (twos k f g) (2 * j) 0 ≡ f j
 twos-even zero f g j h = absurd (let z : j < 0 = h in omega arith)
@@ -152,21 +161,25 @@ module _ (w : List ℕ) (n : ℕ) (s : State) (parent mask link : ℕ) (fits : 2
 
   state-byte : (k : ℕ) → k < 16 → getD (withSlot w n s parent mask link) (24 * n + k) 0 ≡ getD (stateBytes s) k 0
   unfolding linkedBytes
-  state-byte k h = new-byte k (omega arith) ∙ List·getD-append (stateBytes s) (restBytes parent mask (link % 256) (link / 256 % 256) (link / 65536 % 256)) 0 k (omega (arith, state-length s))
+  state-byte k h =
+      new-byte k (omega arith)
+      ∙ List·getD-append (stateBytes s) (restBytes parent mask (link % 256) (link / 256 % 256) (link / 65536 % 256)) 0 k (omega (arith, state-length s))
+
+  even : (k : ℕ) → k < 8 → getD (withSlot w n s parent mask link) (24 * n + 2 * k) 0 ≡ getD (s .c) k 0
+  unfolding stateBytes
+  even k b = state-byte (2 * k) (omega arith) ∙ twos-even 8 (λ j. getD (s .c) j 0) (λ j. getD (s .p) j 0) k b
+
+  odd : (k : ℕ) → k < 8 → getD (withSlot w n s parent mask link) (24 * n + 2 * k + 1) 0 ≡ getD (s .p) k 0
+  unfolding stateBytes
+  odd k b = rw (add-assoc (24 * n)) (state-byte (2 * k + 1) (omega arith)) ∙ twos-odd 8 (λ j. getD (s .c) j 0) (λ j. getD (s .p) j 0) k b
 
   -- slot n is as it was written
   pub slot-state : length (s .c) ≡ 8 → length (s .p) ≡ 8 → stateAt (withSlot w n s parent mask link) n ≡ s
-  unfolding stateAt stateBytes
-  slot-state hc hp = λ x. record {
-    c = sym (filled-end {d = 0} {f = λ k. getD (withSlot w n s parent mask link) (24 * n + 2 * k) 0} {l = s .c} (record { len = hc; done = λ k b. sym (even k b) }) (omega arith)) x;
-    p = sym (filled-end {d = 0} {f = λ k. getD (withSlot w n s parent mask link) (24 * n + 2 * k + 1) 0} {l = s .p} (record { len = hp; done = λ k b. sym (odd k b) }) (omega arith)) x;
-  }
-    where
-      even : (k : ℕ) → k < 8 → getD (withSlot w n s parent mask link) (24 * n + 2 * k) 0 ≡ getD (s .c) k 0
-      even k b = state-byte (2 * k) (omega arith) ∙ twos-even 8 (λ j. getD (s .c) j 0) (λ j. getD (s .p) j 0) k b
-
-      odd : (k : ℕ) → k < 8 → getD (withSlot w n s parent mask link) (24 * n + 2 * k + 1) 0 ≡ getD (s .p) k 0
-      odd k b = rw (add-assoc (24 * n)) (state-byte (2 * k + 1) (omega arith)) ∙ twos-odd 8 (λ j. getD (s .c) j 0) (λ j. getD (s .p) j 0) k b
+  unfolding stateAt
+  slot-state hc hp =
+      let c-filled = filled-end {d = 0} {l = s .c} (record { len = hc; done = λ k b. sym (even k b) }) (omega arith) in
+      let p-filled = filled-end {d = 0} {l = s .p} (record { len = hp; done = λ k b. sym (odd k b) }) (omega arith) in
+      sym (λ x. record { c = c-filled x; p = p-filled x })
 
   pub slot-parent : parent < 4294967296 → parentAt (withSlot w n s parent mask link) n ≡ parent
   unfolding parentAt fourAt linkedBytes stateBytes

@@ -56,7 +56,7 @@ restBytes parent mask x y z = parent % 256 ∷ parent / 256 % 256 ∷ parent / 6
 unfoldable pub slotBytes : State → ℕ → ℕ → List ℕ
 slotBytes s parent mask = stateBytes s ++ restBytes parent mask 0 0 0
 
--- the slot while the search runs
+-- the same while the search runs, with the link in its three last bytes
 unfoldable pub linkedBytes : State → ℕ → ℕ → ℕ → List ℕ
 linkedBytes s parent mask link = stateBytes s ++ restBytes parent mask (link % 256) (link / 256 % 256) (link / 65536 % 256)
 
@@ -94,7 +94,7 @@ keyAt w i = record { a = fourAt w (24 * i); b = fourAt w (24 * i + 4); c = fourA
 unfoldable pub sameKeys : Key → Key → Bool
 sameKeys k l = ((eqb (k .a) (l .a) && eqb (k .b) (l .b)) && eqb (k .c) (l .c)) && eqb (k .d) (l .d)
 
--- a sum in which every byte of the key counts
+-- a sum in which every byte of the key counts: the factors are below 2^30, so it fits 64 bits
 unfoldable pub mixed : Key → ℕ
 mixed k = 625341585 * k .a + 1013904223 * k .b + 668265261 * k .c + 374761393 * k .d
 

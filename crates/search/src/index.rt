@@ -37,7 +37,7 @@ fn key_of(s: State) -> Key
     }
 }
 
-// The bucket of a key, of `size` buckets: a power of two, for an even spread.
+// The bucket of a key, of `size` buckets: a power of two, for an even spread. The factors are below 2^30, so the sum fits.
 fn bucket(key: Key, size: usize) -> usize
     requires { ⌜ 0 < size ⌝ }
     ensures { λ r. ⌜ (r ≡ bucketFor size key) × (r < size) ⌝ }

@@ -1,3 +1,4 @@
+-- The invariant: a walk along the chain for the key stands at cur.
 use Prim.Native.Nat.{_-_}
 use mathlib.Core.Path.{_≡_, refl, sym, _∙_}
 use lib.ListN.{length, getD}
@@ -54,11 +55,13 @@ bytes c = record { c-length = search needs; p-length = search needs; c-fits = λ
 
 returns : tie.Need-returns Inv-loop μ-loop
 returns c =
-    let h = c .before .before in
-    let known = h .before .before .before .before .before .before in
+    let l = c .before .before .before in
+    let key = l .before .before .before in
+    let known = key .before .before in
     let start = known .before in
     let e = keys-same _ _ (sym (c .before .same-at .ensures) ∙ c .if1 .taken) in
-    held _ (start .args .s) _ (h .before .loop .cur - 1) (known .shared-slice-known .given) (bytes start) (omega (arith, h .before .loop .inv .low)) (e ∙ h .before .before .before .before .key-of .ensures)
+    held _ (start .args .s) _ (l .loop .cur - 1) (known .shared-slice-known .given) (bytes start) (omega (arith, l .loop .inv .low))
+    (e ∙ key .key-of .ensures)
 
 link-of-requires : tie.Need-link-of-requires Inv-loop μ-loop
 link-of-requires c κs = search needs
@@ -66,13 +69,15 @@ link-of-requires c κs = search needs
 loop-less : tie.Need-loop-less Inv-loop μ-loop
 loop-less c =
     let l = c .before .before .before .before in
-    rw (c .link-of .ensures) (walk-falls (keyed (l .before .before .before .before .before .before .pre)) (l .before .before .before .key-of .result) (l .loop .cur) (omega arith) (l .loop .inv))
+    let key = l .before .before .before in
+    rw (c .link-of .ensures) (walk-falls (keyed (key .before .before .before .pre)) (key .key-of .result) (l .loop .cur) (omega arith) (l .loop .inv))
 
 loop-again : tie.Need-loop-again Inv-loop μ-loop
 loop-again c =
     let l = c .before .before .before .before in
+    let key = l .before .before .before in
     rw (c .link-of .ensures)
-    (walk-next (keyed (l .before .before .before .before .before .before .pre)) (l .before .before .before .key-of .result) (l .loop .cur) (omega arith) (l .loop .inv)
+    (walk-next (keyed (key .before .before .before .pre)) (key .key-of .result) (l .loop .cur) (omega arith) (l .loop .inv)
     (keys-differ _ _ (sym (c .before .before .same-at .ensures) ∙ c .before .if1 .left)))
 
 returns-2 : tie.Need-returns-2 Inv-loop μ-loop

@@ -22,7 +22,12 @@ word-of-requires-4 c κs = search needs
 returns : tie.Need-returns
 unfolding keyOf
 returns c =
-    λ x. record { a = c .before .before .before .word-of .ensures x; b = c .before .before .word-of2 .ensures x; c = c .before .word-of3 .ensures x; d = c .word-of4 .ensures x }
+    λ x. record {
+      a = c .before .before .before .word-of .ensures x;
+      b = c .before .before .word-of2 .ensures x;
+      c = c .before .word-of3 .ensures x;
+      d = c .word-of4 .ensures x;
+    }
 
 pub key-of-spec : {M : Type 1} → statement M
 key-of-spec =

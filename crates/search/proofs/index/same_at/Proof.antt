@@ -34,8 +34,12 @@ four-at-requires-4 c κs = search needs
 returns : tie.Need-returns
 unfolding keyAt sameKeys
 returns c =
-    rw
-    (c .before .before .before .before .before .before .before .four-at .ensures, c .before .before .before .before .before .four-at2 .ensures, c .before .before .before .four-at3 .ensures, c .before .four-at4 .ensures)
+    rw (
+      c .before .before .before .before .before .before .before .four-at .ensures,
+      c .before .before .before .before .before .four-at2 .ensures,
+      c .before .before .before .four-at3 .ensures,
+      c .before .four-at4 .ensures,
+    )
 
 pub same-at-spec : {M : Type 1} → statement M
 same-at-spec =

@@ -1,3 +1,4 @@
+-- The invariant: the first i links are cleared.
 use Prim.Native.Nat.{_-_, _≤_}
 use mathlib.Core.Path.{_≡_, refl}
 use lib.ListN.{length}

@@ -1,3 +1,4 @@
+-- The invariant: the numbers of the first k tasks are loaded.
 use Prim.Native.Nat.{_+_, _-_, _*_, _≤_}
 use mathlib.Core.Path.{_≡_, refl}
 use lib.ListN.{getD}
