@@ -14,6 +14,7 @@ use Rattle.tasks.specs.Tick.{after, missed}
 use Rattle.tasks.specs.declared.state.State.{State}
 use Rattle.tasks.specs.declared.table.Table.{Table}
 use Rattle.tasks.proofs.Bools.{by-bool, clash}
+use Rattle.tasks.proofs.More.{full-miss}
 use Rattle.levels.specs.Verdict.{System}
 use Rattle.levels.specs.Verdict as levels
 use Rattle.levels.specs.Levels.{Calm, Hunting}
@@ -23,7 +24,7 @@ use Rattle.search.specs.System.{step, system}
 use Rattle.search.specs.Masks.{submask, freeMask, follows}
 use Rattle.search.specs.Slot.{stateAt}
 use Rattle.search.specs.Keeping.{Level, MissFrom, CalmTo}
-use Rattle.search.proofs.MaskLaws.{First, next-submask, no-bits}
+use Rattle.search.proofs.MaskLaws.{next-submask, no-bits, submask-legal, free-full}
 use Rattle.search.proofs.SystemLaws.{step-missed, step-next, legal-or-refused}
 
 -- a submask before the one that follows m is before m, or m
@@ -64,6 +65,19 @@ module _ (t : Table) (valid : tableFault t ≡ 0) (s : State) (proper : improper
       let n = step-next t valid s proper q (l .0) (l .1) (x .calm q (omega (arith, l .0)) (l .1)) in
       let z : _≡_ {A = ℕ} 0 1 = cc in
       omega arith)
+
+  -- the mask of all tasks that may be released does not miss, so no mask does
+  pub calm-full : missed t (after t s (freeMask t s)) ≡ false → Calm (system t) s
+  calm-full e =
+      calm-legal (system t) s {Legal = λ q. (q < 256) × (submask (freeMask t s) q ≡ true)} (legal-or-refused t valid s proper)
+      (λ q l u r.
+      let legal = submask-legal t s q (l .1) in
+      by-bool (missed t (after t s q))
+      (λ h. clash (full-miss t s valid proper (freeMask t s) q (free-full t s) legal h) e)
+      (λ h.
+      let n = step-next t valid s proper q (l .0) (l .1) h in
+      let z : _≡_ {A = ℕ} 0 1 = cc in
+      omega arith))
 
 -- the slots before i + 1 are calm
 pub hunt-turn : (t : Table) (w : List ℕ) {lo i : ℕ} → Hunting (system t) (stateAt w) lo i → Calm (system t) (stateAt w i) → Hunting (system t) (stateAt w) lo (i + 1)

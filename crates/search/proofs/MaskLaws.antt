@@ -13,6 +13,7 @@ use Rattle.tasks.specs.declared.state.State.{State}
 use Rattle.tasks.specs.declared.table.Table.{Table}
 use Rattle.tasks.proofs.Bools.{by-bool, clash, and-left, and-right, both, or-right, not-yes}
 use Rattle.tasks.proofs.Legal.{legal-bit, bits-legal}
+use Rattle.tasks.proofs.More.{Full}
 use Rattle.search.specs.Masks.{all, byteOf, releasable, freeMask, submask, next, follows}
 use Rattle.search.proofs.MaskTest.{same, checks, every}
 
@@ -184,6 +185,11 @@ module _ (t : Table) (s : State) where
   free-bit : (i : ℕ) → i < 8 → bit (freeMask t s) i ≡ releasable t s i
   unfolding freeMask
   free-bit = byte-bit (releasable t s)
+
+  -- LAW: the mask has a bit for every task that may be released, and no other
+  pub free-full : Full t s (freeMask t s)
+  unfolding releasable
+  free-full = free-bit
 
   may : (i : ℕ) → (i < t .n) × (getD (s .p) i 0 ≡ 0) → releasable t s i ≡ true
   unfolding releasable

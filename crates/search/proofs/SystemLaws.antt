@@ -12,9 +12,9 @@ use native.Mathlib.Numerals.{add-one}
 use lib.Dec.{ltb}
 use lib.ListN.{length, getD}
 use borrow.Author.Tests.{lt-ltb, le-ltb}
-use Rattle.tasks.specs.Lists.{pick, count}
+use Rattle.tasks.specs.Lists.{pick}
 use Rattle.tasks.specs.Table.{tableFault}
-use Rattle.tasks.specs.State.{start, notPreempted, started, keeps, late, improper}
+use Rattle.tasks.specs.State.{start, improper}
 use Rattle.tasks.specs.Tick.{illegal, after, missed, refusal, ticked}
 use Rattle.tasks.specs.Replay as tasks
 use Rattle.tasks.specs.declared.state.State.{State}
@@ -27,10 +27,8 @@ use Rattle.tasks.specs.declared.play.Outcome.the-variants as Outcome
 use Rattle.tasks.specs.declared.play.ReplayAnswer.{ReplayAnswer}
 use Rattle.tasks.specs.declared.play.ReplayAnswer.the-variants as Replayed
 use Rattle.tasks.specs.declared.play.Replayed.{Replayed}
-use Rattle.tasks.proofs.Bools.{by-bool, and-right}
-use Rattle.tasks.proofs.Fill.{eight-at}
-use Rattle.tasks.proofs.Counts.{count-mono}
-use Rattle.tasks.proofs.Proper.{Fine, is-proper}
+use Rattle.tasks.proofs.Bools.{by-bool}
+use Rattle.tasks.proofs.Proper.{start-proper}
 use Rattle.tasks.proofs.Answered.{ticked-refused, ticked-missed, ticked-next, refusal-none, ticked-illegal, ticked-proper}
 use Rattle.tasks.proofs.Played.{replayed-played}
 use Rattle.levels.specs.Verdict.{System, Tick, Replay, Reached, Within, replayFrom, replay}
@@ -97,29 +95,7 @@ module _ (t : Table) (valid : tableFault t ≡ 0) where
 
   -- ---- every state reached is proper
 
-  module _ (i : ℕ) (h : i < 8) where
-    no-work : getD (start .c) i 0 ≡ 0
-    no-work = eight-at 0 (λ j. 0) i h
-
-    no-gap : getD (start .p) i 0 ≡ 0
-    no-gap = eight-at 0 (λ j. 0) i h
-
-    start-fine : Fine t start i
-    unfolding late
-    start-fine = record { work = omega (arith, no-work); gap = omega (arith, no-gap); kept = rw no-work; past = λ q. (no-work, no-gap) }
-
-    not-kept : keeps t start i ≡ true → false ≡ true
-    unfolding keeps started
-    not-kept e = rw no-work at (and-right (notPreempted t) (started t start i) e)
-
-  none-kept : count 8 (keeps t start) ≤ 0
-  unfolding count
-  none-kept = count-mono (keeps t start) (λ i. false) 8 not-kept
-
-  pub start-proper : improper t start ≡ false
-  start-proper = is-proper t start start-fine (omega (arith, none-kept))
-
-  -- LAW: so is every state that a step leads to
+  -- LAW: a state that a step leads to is proper
   pub next-proper : (s : State) (m : ℕ) (u : State) → step t s m ≡ Next u → improper t u ≡ false
   next-proper s m u e =
       elim (decLt m 256) [
@@ -133,7 +109,7 @@ module _ (t : Table) (valid : tableFault t ≡ 0) where
   -- LAW: every state that a list reaches is proper
   pub reached-proper : (s : State) → Reached (system t) s → improper t s ≡ false
   reached-proper s r =
-      reach-ind (system t) (λ k u. improper t u ≡ false) (λ k u m v p e. next-proper u m v e) start-proper (r .masks) s (r .reaches)
+      reach-ind (system t) (λ k u. improper t u ≡ false) (λ k u m v p e. next-proper u m v e) (start-proper t) (r .masks) s (r .reaches)
 
 -- ---- the replay
 

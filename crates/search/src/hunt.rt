@@ -14,7 +14,8 @@ pub(crate) enum HuntAnswer {
     Clear,
 }
 
-// Tries the legal masks of every slot of the level for a miss.
+// Tries the legal masks of every slot of the level for a miss. Where one of them misses, so does the mask of all tasks that
+// may be released: it is tried first, and the others only where it misses.
 pub(crate) fn hunt(t: Table, work: &[u8], lo: usize, hi: usize) -> HuntAnswer
     requires { ⌜ (lo ≤ hi) × Level t (now work) hi ⌝ }
     ensures { λ r. ⌜ Hunted t (now (work .entry)) lo hi r ⌝ }
@@ -26,14 +27,17 @@ pub(crate) fn hunt(t: Table, work: &[u8], lo: usize, hi: usize) -> HuntAnswer
         }
         let s = load(work, i);
         let free = free_mask(t, s);
-        let mut m: u16 = 0;
-        while m < 256 {
-            let mask = m as u8;
-            let next = s.advance(t, mask);
-            if next.missed(t) {
-                break 'hunt HuntAnswer::Miss(i, mask);
+        let full = s.advance(t, free);
+        if full.missed(t) {
+            let mut m: u16 = 0;
+            while m < 256 {
+                let mask = m as u8;
+                let next = s.advance(t, mask);
+                if next.missed(t) {
+                    break 'hunt HuntAnswer::Miss(i, mask);
+                }
+                m = follow(free, mask);
             }
-            m = follow(free, mask);
         }
         i += 1;
     }

@@ -1,13 +1,13 @@
 use mathlib.Core.Path.{_≡_, refl, sym, ap, _∙_}
 use Prim.Native.Nat.{ℕ, suc, _+_, _-_, _*_, _≤_, _<_}
+use mathlib.Core.Logic.{⊎-elim}
 use Rattle.search.specs.Slot.{stateAt}
 use Rattle.search.specs.System.{system}
 use Rattle.search.specs.Masks.{freeMask, submask}
-use Rattle.levels.specs.Levels.{Hunting}
+use Rattle.levels.specs.Levels.{Calm, Hunting}
 use Rattle.levels.proofs.Explore.{hunt-start}
 use Rattle.search.specs.Keeping.{Level, CalmTo}
-use Rattle.search.proofs.MaskLaws.{free-small}
-use Rattle.search.proofs.HuntLaws.{calm-start, calm-next, calm-falls, calm-end, hunt-turn, miss-from}
+use Rattle.search.proofs.HuntLaws.{calm-start, calm-next, calm-falls, calm-end, calm-full, hunt-turn, miss-from}
 use native.Mathlib.Omega.{arith}
 use borrow.Author.Needs.{needs}
 use Rattle.search.proofs.hunt.hunt.Statement.{statement}
@@ -41,34 +41,39 @@ load-requires c κs = search needs
 free-mask-requires : tie.Need-free-mask-requires Inv-loop μ-loop Inv-hunt μ-hunt
 free-mask-requires c κs = search needs
 
-loop-holds : tie.Need-loop-holds Inv-loop μ-loop Inv-hunt μ-hunt
-loop-holds c = calm-start _ _ (omega (arith, c .free-mask .ok))
-
-cast-mask : tie.Need-cast-mask Inv-loop μ-loop Inv-hunt μ-hunt
-cast-mask c = search needs
-
 advance-requires : tie.Need-advance-requires Inv-loop μ-loop Inv-hunt μ-hunt
 advance-requires c κs = search needs
 
 missed-requires : tie.Need-missed-requires Inv-loop μ-loop Inv-hunt μ-hunt
 missed-requires c κs = search needs
 
+loop-holds : tie.Need-loop-holds Inv-loop μ-loop Inv-hunt μ-hunt
+loop-holds c = calm-start _ _ (omega (arith, c .before .before .before .free-mask .ok))
+
+cast-mask : tie.Need-cast-mask Inv-loop μ-loop Inv-hunt μ-hunt
+cast-mask c = search needs
+
+advance-requires-2 : tie.Need-advance-requires-2 Inv-loop μ-loop Inv-hunt μ-hunt
+advance-requires-2 c κs = search needs
+
+missed-requires-2 : tie.Need-missed-requires-2 Inv-loop μ-loop Inv-hunt μ-hunt
+missed-requires-2 c κs = search needs
+
 follow-requires : tie.Need-follow-requires Inv-loop μ-loop Inv-hunt μ-hunt
 follow-requires c κs = search needs
 
 loop-less : tie.Need-loop-less Inv-loop μ-loop Inv-hunt μ-hunt
 loop-less c =
-    let h = c .before .before .before .before .before in
-    let s = c .before .before .before .before .before .before .free-mask in
-    let x = h .loop .inv in
+    let s = c .before .before .before .before .before .before .before .before .before .free-mask in
+    let x = c .before .before .before .before .before .loop .inv in
     rw (c .follow .ensures) (omega (arith, calm-falls _ _ (omega (arith, s .ok)) x (c .before .before .before .before .loop-test .taken), x .most))
 
 loop-again : tie.Need-loop-again Inv-loop μ-loop Inv-hunt μ-hunt
 loop-again c =
-    let s = c .before .before .before .before .before .before .free-mask in
+    let s = c .before .before .before .before .before .before .before .before .before .free-mask in
     let x = c .before .before .before .before .before .loop .inv in
     rw (c .follow .ensures)
-    (calm-next _ _ (omega (arith, s .ok)) x (c .before .before .before .before .loop-test .taken) (rw (c .before .before .before .advance .ensures) at (sym (c .before .before .missed .ensures) ∙ c .before .if2 .left)))
+    (calm-next _ _ (omega (arith, s .ok)) x (c .before .before .before .before .loop-test .taken) (rw (c .before .before .before .advance2 .ensures) at (sym (c .before .before .missed2 .ensures) ∙ c .before .if3 .left)))
 
 add-i : tie.Need-add-i Inv-loop μ-loop Inv-hunt μ-hunt
 add-i c = search needs
@@ -78,35 +83,39 @@ hunt-less c = search needs
 
 hunt-again : tie.Need-hunt-again Inv-loop μ-loop Inv-hunt μ-hunt
 hunt-again c =
-    let h = c .before .before .before .before .before .hunt in
-    let level = c .before .before .before .before .before .before .before .pre .1 in
-    let ne = c .before .before .before .before .if1 .left in
-    let load = c .before .before .before .load in
-    let free = c .before .before .free-mask in
-    let x = c .before .loop .inv in
-    let a = c .before .before .before .before .before .before .before .args in
-    let below : h .i < a .hi = omega arith in (
-      omega arith,
-      omega arith,
-      hunt-turn (a .t) (a .work .now) (h .inv .2)
-          (calm-end (a .t) (level .valid) (stateAt (a .work .now) (h .i)) (level .proper (h .i) below) (rw (← load .ensures, ← free .ensures) x) (c .loop-test .left)),
-    )
+    let h = c .before .before .before .before .before .before .hunt in
+    let level = c .before .before .before .before .before .before .before .before .pre .1 in
+    let ne = c .before .before .before .before .before .if1 .left in
+    let load = c .before .before .before .before .load in
+    let free = c .before .before .before .free-mask in
+    let a = c .before .before .before .before .before .before .before .before .args in
+    let below : h .i < a .hi = omega arith in
+    let s = stateAt (a .work .now) (h .i) in
+    let proper = level .proper (h .i) below in
+    let calm : Calm (system (a .t)) s =
+    ⊎-elim
+    (λ w. calm-end (a .t) (level .valid) s proper (rw (← load .ensures, ← free .ensures) (w .1 .inv)) (w .2 .left))
+    (λ w.
+    calm-full (a .t) (level .valid) s proper
+    (rw (← load .ensures, ← free .ensures, ← c .before .before .advance .ensures) (sym (c .before .missed .ensures) ∙ w .left)))
+    (c .if2 .came) in
+    (omega arith, omega arith, hunt-turn (a .t) (a .work .now) (h .inv .2) calm)
 
 returns : tie.Need-returns Inv-loop μ-loop Inv-hunt μ-hunt
 returns c = rw (c .if1 .taken) at (c .before .hunt .inv .2)
 
 returns-2 : tie.Need-returns-2 Inv-loop μ-loop Inv-hunt μ-hunt
 returns-2 c =
-    let h = c .before .before .before .before .before .before .before .before .hunt in
-    let level = c .before .before .before .before .before .before .before .before .before .before .pre .1 in
-    let ne = c .before .before .before .before .before .before .before .if1 .left in
-    let load = c .before .before .before .before .before .before .load in
-    let free = c .before .before .before .before .before .free-mask in
+    let h = c .before .before .before .before .before .before .before .before .before .before .before .hunt in
+    let level = c .before .before .before .before .before .before .before .before .before .before .before .before .before .pre .1 in
+    let ne = c .before .before .before .before .before .before .before .before .before .before .if1 .left in
+    let load = c .before .before .before .before .before .before .before .before .before .load in
+    let free = c .before .before .before .before .before .before .before .before .free-mask in
     let x = c .before .before .before .before .loop .inv in
     let b = c .before .before .before .loop-test .taken in
     miss-from level (h .inv .0) (omega arith) b
     (rw (← load .ensures, ← free .ensures) (x .is b))
-    (rw (← load .ensures, ← c .before .before .advance .ensures) (sym (c .before .missed .ensures) ∙ c .if2 .taken))
+    (rw (← load .ensures, ← c .before .before .advance2 .ensures) (sym (c .before .missed2 .ensures) ∙ c .if3 .taken))
 
 pub hunt-spec : {M : Type 1} → statement M
 hunt-spec =
@@ -119,10 +128,12 @@ hunt-spec =
     hunt-holds
     load-requires
     free-mask-requires
-    loop-holds
-    cast-mask
     advance-requires
     missed-requires
+    loop-holds
+    cast-mask
+    advance-requires-2
+    missed-requires-2
     follow-requires
     loop-less
     loop-again
