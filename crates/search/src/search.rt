@@ -74,6 +74,27 @@ fn search_large(t: Table, work: &mut [u8], trace: &mut [u8], k: usize) -> Search
     search_with(t, work, trace, &mut heads, k)
 }
 
+// The search with the heads for a work space of k slots, chosen step by step from the fewest on. It calls itself: the compiler
+// then keeps each size's heads in a frame of their own, so that a small work space does not pay a large one's stack.
+fn search_sized(t: Table, work: &mut [u8], trace: &mut [u8], k: usize, step: usize) -> SearchAnswer
+    requires { ⌜ Lent t (now work) (now trace) k ⌝ }
+    ensures { λ r. ⌜ Found t (now (work .entry)) (now (work .exit)) (now (trace .entry)) (now (trace .exit)) (figures r) ⌝ }
+{
+    if 1 < step {
+        return search_large(t, work, trace, k);
+    }
+    if step == 1 {
+        if k <= 262144 {
+            return search_medium(t, work, trace, k);
+        }
+        return search_sized(t, work, trace, k, 2);
+    }
+    if k <= 16384 {
+        return search_small(t, work, trace, k);
+    }
+    search_sized(t, work, trace, k, 1)
+}
+
 // The search of a valid table.
 fn search_valid(t: Table, work: &mut [u8], trace: &mut [u8]) -> SearchAnswer
     requires { ⌜ tableFault t ≡ 0 ⌝ }
@@ -86,13 +107,7 @@ fn search_valid(t: Table, work: &mut [u8], trace: &mut [u8]) -> SearchAnswer
     if trace.len() < k {
         return SearchAnswer::Refused(10);
     }
-    if k <= 16384 {
-        return search_small(t, work, trace, k);
-    }
-    if k <= 262144 {
-        return search_medium(t, work, trace, k);
-    }
-    search_large(t, work, trace, k)
+    search_sized(t, work, trace, k, 0)
 }
 
 // The search of a table.

@@ -1,17 +1,14 @@
-use mathlib.Core.Path.{_≡_, refl, sym, ap, _∙_}
-use Prim.Native.Nat.{ℕ, suc, _+_, _-_, _*_, _≤_, _<_}
-use Rattle.search.specs.Claim.{slotsIn}
-use Rattle.search.specs.Keeping.{Lent}
 use Rattle.search.proofs.ClaimLaws.{slots-is, refusal-nine, refusal-ten, refusal-zero, refused-search, found-search}
+use Rattle.search.specs.Keeping.{Lent}
+use Prim.Native.Nat.{_≤_}
+use mathlib.Core.Path.{_≡_, sym, _∙_}
 use native.Mathlib.Omega.{arith}
 use borrow.Author.Needs.{needs}
 use Rattle.search.proofs.search.search_valid.Statement.{statement}
 use Rattle.search.proofs.search.search_valid.Tie as tie
 use Rattle.search.proofs.search.search_valid.Reads as reads
 use Rattle.search.proofs.search.search_valid.Lts as lts
-use Rattle.search.proofs.search.search_large.Reads as search-large-reads
-use Rattle.search.proofs.search.search_medium.Reads as search-medium-reads
-use Rattle.search.proofs.search.search_small.Reads as search-small-reads
+use Rattle.search.proofs.search.search_sized.Reads as search-sized-reads
 use Rattle.search.proofs.search.slots_in.Reads as slots-in-reads
 
 slots-in-requires : tie.Need-slots-in-requires
@@ -31,16 +28,16 @@ returns-2 c =
     let is = slots-is (a .work .now) (a .trace .now) (k .ensures) in
     refused-search (refusal-ten (a .work .now) (a .trace .now) (λ e. c .before .if1 .left (is ∙ e)) (rw is at (c .if2 .taken))) (omega arith)
 
-search-small-requires : tie.Need-search-small-requires
-search-small-requires c κs =
-    let k = c .before .before .before .before .before .slots-in in
-    let a = c .before .before .before .before .before .before .before .before .args in
-    let ne = c .before .before .before .before .if1 .left in
+search-sized-requires : tie.Need-search-sized-requires
+search-sized-requires c κs =
+    let k = c .before .before .before .before .slots-in in
+    let a = c .before .before .before .before .before .before .before .args in
+    let ne = c .before .before .before .if1 .left in
     record {
-      valid = c .before .before .before .before .before .before .before .before .pre;
+      valid = c .before .before .before .before .before .before .before .pre;
       is = slots-is (a .work .now) (a .trace .now) (k .ensures);
       some = omega arith;
-      long = c .before .before .before .if2 .left;
+      long = c .before .before .if2 .left;
     }
 
 same-length : tie.Need-same-length
@@ -51,60 +48,10 @@ same-length-2 c = search needs
 
 returns-3 : tie.Need-returns-3
 returns-3 c =
-    let k = c .before .before .before .before .before .before .before .before .before .before .slots-in in
-    let a = c .before .before .before .before .before .before .before .before .before .before .before .before .before .args in
+    let k = c .before .before .before .before .before .before .before .before .before .slots-in in
+    let a = c .before .before .before .before .before .before .before .before .before .before .before .before .args in
     let is = slots-is (a .work .now) (a .trace .now) (k .ensures) in
-    found-search (refusal-zero (a .work .now) (a .trace .now) (λ e. c .before .before .before .before .before .before .before .before .before .if1 .left (is ∙ e)) (rw is at (c .before .before .before .before .before .before .before .before .if2 .left))) (c .before .before .before .before .search-small .ensures)
-
-search-medium-requires : tie.Need-search-medium-requires
-search-medium-requires c κs =
-    let k = c .before .before .before .before .before .before .slots-in in
-    let a = c .before .before .before .before .before .before .before .before .before .args in
-    let ne = c .before .before .before .before .before .if1 .left in
-    record {
-      valid = c .before .before .before .before .before .before .before .before .before .pre;
-      is = slots-is (a .work .now) (a .trace .now) (k .ensures);
-      some = omega arith;
-      long = c .before .before .before .before .if2 .left;
-    }
-
-same-length-3 : tie.Need-same-length-3
-same-length-3 c = search needs
-
-same-length-4 : tie.Need-same-length-4
-same-length-4 c = search needs
-
-returns-4 : tie.Need-returns-4
-returns-4 c =
-    let k = c .before .before .before .before .before .before .before .before .before .before .before .slots-in in
-    let a = c .before .before .before .before .before .before .before .before .before .before .before .before .before .before .args in
-    let is = slots-is (a .work .now) (a .trace .now) (k .ensures) in
-    found-search (refusal-zero (a .work .now) (a .trace .now) (λ e. c .before .before .before .before .before .before .before .before .before .before .if1 .left (is ∙ e)) (rw is at (c .before .before .before .before .before .before .before .before .before .if2 .left))) (c .before .before .before .before .search-medium .ensures)
-
-search-large-requires : tie.Need-search-large-requires
-search-large-requires c κs =
-    let k = c .before .before .before .before .before .before .slots-in in
-    let a = c .before .before .before .before .before .before .before .before .before .args in
-    let ne = c .before .before .before .before .before .if1 .left in
-    record {
-      valid = c .before .before .before .before .before .before .before .before .before .pre;
-      is = slots-is (a .work .now) (a .trace .now) (k .ensures);
-      some = omega arith;
-      long = c .before .before .before .before .if2 .left;
-    }
-
-same-length-5 : tie.Need-same-length-5
-same-length-5 c = search needs
-
-same-length-6 : tie.Need-same-length-6
-same-length-6 c = search needs
-
-returns-5 : tie.Need-returns-5
-returns-5 c =
-    let k = c .before .before .before .before .before .before .before .before .before .before .before .slots-in in
-    let a = c .before .before .before .before .before .before .before .before .before .before .before .before .before .before .args in
-    let is = slots-is (a .work .now) (a .trace .now) (k .ensures) in
-    found-search (refusal-zero (a .work .now) (a .trace .now) (λ e. c .before .before .before .before .before .before .before .before .before .before .if1 .left (is ∙ e)) (rw is at (c .before .before .before .before .before .before .before .before .before .if2 .left))) (c .before .before .before .before .search-large .ensures)
+    found-search (refusal-zero (a .work .now) (a .trace .now) (λ e. c .before .before .before .before .before .before .before .before .if1 .left (is ∙ e)) (rw is at (c .before .before .before .before .before .before .before .if2 .left))) (c .before .before .before .before .search-sized .ensures)
 
 pub search-valid-spec : {M : Type 1} → statement M
 search-valid-spec =
@@ -113,15 +60,7 @@ search-valid-spec =
     slots-in-requires
     returns
     returns-2
-    search-small-requires
+    search-sized-requires
     same-length
     same-length-2
-    returns-3
-    search-medium-requires
-    same-length-3
-    same-length-4
-    returns-4
-    search-large-requires
-    same-length-5
-    same-length-6
-    returns-5)
+    returns-3)
