@@ -6,6 +6,7 @@ pub mod IndexLaws
 pub mod MaskTest
 pub mod MaskLaws
 pub mod SystemLaws
+pub mod OutcomeLaws
 pub mod HuntLaws
 pub mod StoreLaws
 pub mod TraceLaws

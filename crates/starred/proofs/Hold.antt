@@ -1,14 +1,27 @@
--- Every starred example is answered as document 01 says: the checker computes both lists. Assumes nothing.
+-- Every starred example is answered as document 01 says: the checker computes both lists. What it computes for a verdict is the verdict.
+-- Assumes nothing.
+use Prim.Native.Nat.{ℕ, _≤_}
 use mathlib.Core.Path.{_≡_, refl}
-use mathlib.Core.List.{map}
+use mathlib.Core.List.{List, map}
 use Rattle.tasks.specs.Lists.{count, any}
 use Rattle.tasks.specs.Table.{breaks, faultAt, tableFault}
 use Rattle.tasks.specs.Number.{numberIn, numberAt}
 use Rattle.tasks.specs.State.{started, keeps, late, improperAt, improper}
 use Rattle.tasks.specs.Tick.{illegalAt, illegal, releasedAt, released, key, before, ahead, runs, chosen, ranAt, fallen, ran, after, missed, refusal, ticked}
 use Rattle.tasks.specs.Replay.{played, replayed, outcomeTick, replayNumber, replayTick}
+use Rattle.tasks.specs.declared.table.Table.{Table}
+use Rattle.levels.specs.Verdict.{Answer, Verdict}
+use Rattle.levels.specs.Compute.{outcome}
+use Rattle.levels.specs.Compute.Outcome.{Answered}
+use Rattle.search.specs.System.{step, system}
+use Rattle.search.specs.Outcome.{sameNumbers, sameStates, below, verdictOf}
+use Rattle.search.proofs.OutcomeLaws.{verdict-right}
 use Rattle.starred.specs.Starred.{answer, starred, Example}
 
 pub starred-hold : map (λ (e : Example). answer (e .asks)) starred ≡ map (λ (e : Example). e .says) starred
-unfolding numberAt numberIn count any breaks faultAt tableFault started keeps late improperAt improper illegalAt illegal releasedAt released key before ahead runs chosen ranAt fallen ran after missed refusal ticked played replayed outcomeTick replayNumber replayTick
+unfolding outcome step sameNumbers sameStates below verdictOf numberAt numberIn count any breaks faultAt tableFault started keeps late improperAt improper illegalAt illegal releasedAt released key before ahead runs chosen ranAt fallen ran after missed refusal ticked played replayed outcomeTick replayNumber replayTick
 starred-hold = refl
+
+-- the verdicts computed are those of demand 3, for any table and any K from 1 on
+pub starred-right : (t : Table) (K : ℕ) → 1 ≤ K → (a : Answer) (masks : List ℕ) → verdictOf t K ≡ Answered a masks → Verdict (system t) K a masks
+starred-right = verdict-right
