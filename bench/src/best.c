@@ -1,8 +1,8 @@
 /* The fastest native search found for the same rules. What each state's masks have in common is done once a state: a task's place in
    the order does not depend on the mask (a releasable task, if released, has time left D), so the tasks are put in order
    once and a mask's choice is the lowest m bits of the ready ones in that order (one pdep). The table of open addressing holds the
-   states themselves, looked up some places behind; the full mask is tried for a miss when a state is stored, and the answer waits
-   for the end of its level. */
+   states themselves, in 8 bytes where their numbers fit in 63 bits, looked up some places behind; the full mask is tried for a miss
+   when a state is stored, and the answer waits for the end of its level. */
 #include "engine.h"
 
 #include <immintrin.h>
@@ -10,17 +10,18 @@
 #include <string.h>
 #include <sys/mman.h>
 
-enum { BEHIND = 32, FEWEST = 1 << 12, MOST = 1 << 21 };
+enum { BEHIND = 32, FEWEST = 12, MOST = 21 }; /* FEWEST and MOST: bits of a place */
 
 /* Two spaces, so that a table can grow from one into the other. */
-static __m128i *spaces[2];
+static uint64_t *spaces[2];
 
 typedef struct {
     __m128i fresh;        /* C and P - 1 of each task, as in a slot: what a release leaves before the run */
     __m128i work;         /* C, in 16-bit lanes */
     __m128i shift, gap;   /* D - P and P, in 16-bit lanes */
     __m128i lane;
-    unsigned tasks, m;
+    uint64_t low, high;   /* the bits that the numbers of tasks 1 to 4 and 5 to 8 can have */
+    unsigned low_bits, m;
 } Vectors;
 
 /* What the masks of one state share. */
@@ -110,12 +111,6 @@ static inline bool missed(__m128i s, const Vectors *v)
     return _mm_movemask_epi8(late) != 0;
 }
 
-static inline uint64_t mixed(__m128i s)
-{
-    uint64_t low = (uint64_t)_mm_cvtsi128_si64(s), high = (uint64_t)_mm_extract_epi64(s, 1);
-    return (low ^ high * 0x9E3779B97F4A7C15u) * 0xD6E8FEB86659FD93u;
-}
-
 static inline __m128i slot_state(const uint8_t *work, size_t slot)
 {
     return _mm_loadu_si128((const __m128i *)(work + SLOT * slot));
@@ -128,29 +123,64 @@ static inline void put(uint8_t *at, __m128i s, uint32_t parent, unsigned mask)
     memcpy(at + 16, &rest, 8);
 }
 
-/* No key is 0: a p is at most 200. */
-static inline __m128i key_of(__m128i s) { return _mm_xor_si128(s, _mm_set1_epi16((short)0xFF00)); }
+/* A state in the table: 8 bytes made by gathering the bits that its numbers can have, or the 16 bytes as they are. No key is 0: the
+   top bit is set in the first, and a p is at most 200 in the second. */
+typedef struct { uint64_t low, high; } Key;
 
-static __m128i *grown(__m128i *space, const uint8_t *work, unsigned bits, size_t n)
+static inline Key key_of(__m128i s, const Vectors *v, bool small)
+{
+    uint64_t low = (uint64_t)_mm_cvtsi128_si64(s), high = (uint64_t)_mm_extract_epi64(s, 1);
+    Key k = {low, ~high};
+    if (small) {
+        k.low = _pext_u64(low, v->low) | _pext_u64(high, v->high) << v->low_bits | (uint64_t)1 << 63;
+        k.high = 0;
+    }
+    return k;
+}
+
+static inline uint64_t mixed(Key k, bool small)
+{
+    return small ? k.low * 0xD6E8FEB86659FD93u : (k.low ^ k.high * 0x9E3779B97F4A7C15u) * 0xD6E8FEB86659FD93u;
+}
+
+static inline Key key_at(const uint64_t *set, size_t at, bool small)
+{
+    Key k = {set[small ? at : 2 * at], small ? 0 : set[2 * at + 1]};
+    return k;
+}
+
+static inline void set_key(uint64_t *set, size_t at, Key k, bool small)
+{
+    set[small ? at : 2 * at] = k.low;
+    if (!small) set[2 * at + 1] = k.high;
+}
+
+static inline bool no_key(Key k) { return (k.low | k.high) == 0; }
+
+/* The keys of `from` in a larger table. A place is a hash's top bits, so that both tables are walked in the same order. */
+static void grow(uint64_t *to, unsigned bits, const uint64_t *from, unsigned from_bits, bool small)
 {
     size_t size = (size_t)1 << bits;
-    memset(space, 0, size * sizeof *space);
-    for (size_t i = 0; i < n; i++) {
-        __m128i s = slot_state(work, i);
-        size_t at = mixed(s) >> (64 - bits);
-        while (!_mm_testz_si128(space[at], space[at])) at = (at + 1) & (size - 1);
-        space[at] = key_of(s);
+    memset(to, 0, size * (small ? 8 : 16));
+    for (size_t i = 0; i < (size_t)1 << from_bits; i++) {
+        Key k = key_at(from, i, small);
+        if (no_key(k)) continue;
+        size_t at = mixed(k, small) >> (64 - bits);
+        while (!no_key(key_at(to, at, small))) at = (at + 1) & (size - 1);
+        set_key(to, at, k, small);
     }
-    return space;
 }
 
 static inline __attribute__((always_inline)) uint64_t
-search(const Vectors *v, uint8_t *work, size_t slots, uint8_t *trace, int policy)
+search(const Vectors *v, uint8_t *work, size_t slots, uint8_t *trace, int policy, bool small)
 {
-    struct { __m128i state; uint64_t hash; uint32_t parent, mask; } ring[BEHIND];
-    unsigned bits = 12, turn = 0;
+    struct { __m128i state; Key key; uint64_t hash; uint32_t parent, mask; } ring[BEHIND];
+    unsigned bits = FEWEST;
+    uint64_t *set = spaces[0], *other = spaces[1];
+    memset(set, 0, (size_t)(small ? 8 : 16) << bits);
     put(work, _mm_setzero_si128(), 0, 0);
-    __m128i *set = grown(spaces[turn], work, bits, 1);
+    Key start = key_of(_mm_setzero_si128(), v, small);
+    set_key(set, mixed(start, small) >> (64 - bits), start, small);
     size_t n = 1, bad = MOST_SLOTS;
     {
         Ordered o = ordered(_mm_setzero_si128(), v, policy);
@@ -170,10 +200,12 @@ search(const Vectors *v, uint8_t *work, size_t slots, uint8_t *trace, int policy
         while (more || done < made) {
             if (more) {
                 __m128i after = tick(&o, v, places);
-                uint64_t hash = mixed(after);
-                _mm_prefetch((const char *)&set[hash >> (64 - bits)], _MM_HINT_T0);
+                Key key = key_of(after, v, small);
+                uint64_t hash = mixed(key, small);
+                _mm_prefetch((const char *)&set[(hash >> (64 - bits)) * (small ? 1 : 2)], _MM_HINT_T0);
                 size_t at = made++ % BEHIND;
                 ring[at].state = after;
+                ring[at].key = key;
                 ring[at].hash = hash;
                 ring[at].parent = (uint32_t)i;
                 ring[at].mask = mask_of(&o, places);
@@ -185,24 +217,27 @@ search(const Vectors *v, uint8_t *work, size_t slots, uint8_t *trace, int policy
                 if (made - done < BEHIND && more) continue;
             }
             size_t from = done++ % BEHIND;
-            __m128i key = key_of(ring[from].state);
+            Key key = ring[from].key;
             size_t at = ring[from].hash >> (64 - bits);
             for (;; at = (at + 1) & (((size_t)1 << bits) - 1)) {
-                __m128i entry = set[at];
-                if (_mm_movemask_epi8(_mm_cmpeq_epi8(entry, key)) == 0xFFFF) break;
-                if (_mm_testz_si128(entry, entry)) {
+                Key entry = key_at(set, at, small);
+                if (entry.low == key.low && entry.high == key.high) break;
+                if (no_key(entry)) {
                     if (n == slots) return packed(3, 0, n);
-                    set[at] = key;
+                    set_key(set, at, key, small);
                     put(work + SLOT * n, ring[from].state, ring[from].parent, ring[from].mask);
                     if (bad == MOST_SLOTS) {
                         Ordered next = ordered(ring[from].state, v, policy);
                         if (missed(tick(&next, v, next.free), v)) bad = n;
                     }
                     n++;
-                    if (2 * n > (size_t)1 << bits && (size_t)1 << bits < MOST) {
-                        bits = bits + 2 < 21 ? bits + 2 : 21;
-                        turn = !turn;
-                        set = grown(spaces[turn], work, bits, n);
+                    if (2 * n > (size_t)1 << bits && bits < MOST) {
+                        unsigned wider = bits + 2 < MOST ? bits + 2 : MOST;
+                        grow(other, wider, set, bits, small);
+                        uint64_t *narrow = set;
+                        set = other;
+                        other = narrow;
+                        bits = wider;
                     }
                     break;
                 }
@@ -211,6 +246,14 @@ search(const Vectors *v, uint8_t *work, size_t slots, uint8_t *trace, int policy
         if (n == last) return packed(1, 0, n);
         first = last;
     }
+}
+
+/* The least 2^b - 1 from `most` on. */
+static uint64_t bits_up_to(unsigned most)
+{
+    uint64_t all = 0;
+    while (all < most) all = 2 * all + 1;
+    return all;
 }
 
 static void *huge(size_t len)
@@ -232,7 +275,7 @@ uint64_t best_verdict(const uint8_t *sheet, size_t sheet_len, uint8_t *work, siz
     if (slots == 0) return packed(0, 0, 9);
     if (trace_len < slots) return packed(0, 0, 10);
     for (int k = 0; k < 2; k++)
-        if (!spaces[k] && !(spaces[k] = huge(MOST * sizeof(__m128i)))) return 0;
+        if (!spaces[k] && !(spaces[k] = huge((size_t)16 << MOST))) return 0;
 
     _Alignas(16) int16_t fresh[8], work_of[8], shift[8], gap[8], lane[8];
     for (int i = 0; i < 8; i++) {
@@ -248,12 +291,22 @@ uint64_t best_verdict(const uint8_t *sheet, size_t sheet_len, uint8_t *work, siz
     v.shift = _mm_load_si128((const __m128i *)shift);
     v.gap = _mm_load_si128((const __m128i *)gap);
     v.lane = _mm_load_si128((const __m128i *)lane);
-    v.tasks = (1u << t.n) - 1;
     v.m = t.m;
-    switch (t.policy) {
-    case 0: return search(&v, work, slots, trace, 0);
-    case 1: return search(&v, work, slots, trace, 1);
-    case 2: return search(&v, work, slots, trace, 2);
-    default: return search(&v, work, slots, trace, 3);
+    v.low = v.high = 0;
+    for (int i = 0; i < t.n; i++) {
+        uint64_t *half = i < 4 ? &v.low : &v.high;
+        *half |= (bits_up_to(t.work[i]) | bits_up_to(t.gap[i]) << 8) << 16 * (i % 4);
+    }
+    v.low_bits = (unsigned)_mm_popcnt_u64(v.low);
+    bool small = v.low_bits + _mm_popcnt_u64(v.high) < 64 && v.low_bits < 64;
+    switch (t.policy * 2 + small) {
+    case 0: return search(&v, work, slots, trace, 0, false);
+    case 1: return search(&v, work, slots, trace, 0, true);
+    case 2: return search(&v, work, slots, trace, 1, false);
+    case 3: return search(&v, work, slots, trace, 1, true);
+    case 4: return search(&v, work, slots, trace, 2, false);
+    case 5: return search(&v, work, slots, trace, 2, true);
+    case 6: return search(&v, work, slots, trace, 3, false);
+    default: return search(&v, work, slots, trace, 3, true);
     }
 }
