@@ -84,7 +84,7 @@ static inline Ordered ordered(__m128i s, const Vectors *v, int policy)
     return o;
 }
 
-/* A mask's bits stand at the tasks' places; `out` is all ones where a task is released. */
+/* A mask's bits stand at the tasks' places. All ones where a task is released. */
 static inline __m128i released(const Ordered *o, unsigned places)
 {
     return _mm_cmpeq_epi8(_mm_and_si128(_mm_set1_epi8((char)places), o->both), o->both);
