@@ -303,20 +303,32 @@ impl Run {
     }
 
     /// A table with thousands of states, and spaces large enough for it.
-    fn large_case(&mut self, r: &mut Rng, t: &Table, more: &[usize]) -> Result<(), String> {
-        let s = self.subject(model::write_sheet(t), 50_000);
+    fn large_case(&mut self, r: &mut Rng, t: &Table, limit: usize, more: &[usize]) -> Result<(), String> {
+        let s = self.subject(model::write_sheet(t), limit);
         let levels = s.levels.as_ref().unwrap();
         let last = *levels.counts.last().unwrap();
         self.met.add("large tables");
+        let mut traces = Vec::new();
         for k in [last - 1, last, last + 1].iter().chain(more) {
-            if *k > 0 && levels.verdict((*k).min(1_000_000)).is_some() {
+            let used = (*k).min(1_000_000);
+            if used > 0 && levels.verdict(used).is_some() {
                 let rest = r.below(SLOT);
-                let trace = (*k).min(1_000_000) + r.below(2);
-                self.search(r, &s, k * SLOT + rest, trace)?;
-                self.search(r, &s, k * SLOT + rest, (*k).min(1_000_000) - 1)?;
+                let trace = used + r.below(2);
+                let list = self.search(r, &s, k * SLOT + rest, trace)?;
+                if !list.is_empty() {
+                    traces = vec![list];
+                }
+                self.search(r, &s, k * SLOT + rest, used - 1)?;
             }
         }
-        Ok(())
+        self.replays(r, &s, &traces)
+    }
+
+    /// Slot numbers past 16 bits, as many states as there can be slots, and a miss after hundreds of ticks.
+    fn largest_tables(&mut self, r: &mut Rng) -> Result<(), String> {
+        self.large_case(r, &table(0, 3, &[(1, 1, 50); 3]), 1 << 20, &[65_536, 65_537])?;
+        self.large_case(r, &table(3, 1, &[(20, 39, 39), (20, 40, 40)]), 1 << 20, &[1_000_000])?;
+        self.large_case(r, &table(1, 3, &[(1, 1, 100); 3]), 1 << 20, &[])
     }
 
     /// Every list of up to 4 ticks, played from the start: N(0) to N(4) and L against the levels.
@@ -380,11 +392,6 @@ impl Run {
 
     /// Document 01's benchmark tables.
     fn benchmarks(&mut self, r: &mut Rng) -> Result<(), String> {
-        let table = |policy, cores, tasks: &[(u8, u8, u8)]| Table {
-            policy,
-            cores,
-            tasks: tasks.iter().map(|&(work, deadline, gap)| model::Task { work, deadline, gap }).collect(),
-        };
         let entries = [
             (table(1, 1, &[(1, 2, 2), (1, 2, 2)]), 100, Verdict::Safe(4)),
             (table(1, 1, &[(1, 2, 2), (1, 2, 2)]), 3, Verdict::NoRoom(3)),
@@ -458,6 +465,12 @@ impl Run {
     }
 }
 
+/// policy/cores: (C,D,P), ..
+fn table(policy: u8, cores: u8, tasks: &[(u8, u8, u8)]) -> Table {
+    let tasks = tasks.iter().map(|&(work, deadline, gap)| model::Task { work, deadline, gap }).collect();
+    Table { policy, cores, tasks }
+}
+
 fn hex(bytes: &[u8]) -> String {
     bytes.iter().map(|b| format!("{b:02x} ")).collect()
 }
@@ -492,7 +505,10 @@ fn whole_run(run: &mut Run, seed: u64, sheets: u64) -> Result<(), String> {
             2 => &[999_999, 1_000_000, 1_000_001],
             _ => &[],
         };
-        run.large_case(&mut r, &t, more).map_err(|e| format!("{t:?}: {e}"))?;
+        run.large_case(&mut r, &t, 50_000, more).map_err(|e| format!("{t:?}: {e}"))?;
+    }
+    if sheets >= 20_000 {
+        run.largest_tables(&mut r).map_err(|e| format!("largest tables: {e}"))?;
     }
     run.long_lists(&mut r).map_err(|e| format!("long lists: {e}"))
 }

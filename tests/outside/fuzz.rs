@@ -177,7 +177,8 @@ fn case(r: &mut Rng, m: &Model, spaces: &Spaces, most_slots: usize, found: &mut 
         3 => r.range(0, most_slots),
         _ => r.range(0, most_slots.min(300)),
     };
-    let work_len = (slots * SLOT + r.below(SLOT)).min(spaces.work.size);
+    let rest = if r.one_in(2) { 0 } else { r.below(SLOT) };
+    let work_len = (slots * SLOT + rest).min(spaces.work.size);
     let trace_len = match r.below(6) {
         0 => slots.saturating_sub(1),
         1 => r.below(slots + 2),

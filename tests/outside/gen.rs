@@ -111,9 +111,11 @@ fn odd_numbers(r: &mut Rng, t: &Table, changes: usize) -> Vec<u8> {
     let mut v = model::numbers(t);
     for _ in 0..changes {
         let at = if r.one_in(2) { r.below(4) } else { r.below(v.len()) };
-        v[at] = match r.below(3) {
+        v[at] = match r.below(5) {
             0 => (v[at] + 1).min(16383),
-            1 => r.pick(&EDGES),
+            1 => v[at].saturating_sub(1),
+            2 => 201,
+            3 => r.pick(&EDGES),
             _ => r.below(300) as u32,
         };
     }
