@@ -346,7 +346,11 @@ impl Run {
                     _ => {}
                 }
             }
-            self.met.0.entry("lists of the brute force".into()).and_modify(|n| *n += lists.len()).or_insert(lists.len());
+            self.met
+                .0
+                .entry("lists of the brute force".into())
+                .and_modify(|n| *n += lists.len())
+                .or_insert(lists.len());
             counts.push(reached.len());
             if d < ticks {
                 lists = lists

@@ -187,8 +187,7 @@ fn case(r: &mut Rng, m: &Model, spaces: &Spaces, most_slots: usize, found: &mut 
     };
     let (work, work_before) = lend(r, &spaces.work, work_len);
     let (trace, trace_before) = lend(r, &spaces.trace, trace_len);
-    let answer =
-        calls::verdict(spaces.input.bytes(&input), spaces.work.bytes(&work), spaces.trace.bytes(&trace));
+    let answer = calls::verdict(spaces.input.bytes(&input), spaces.work.bytes(&work), spaces.trace.bytes(&trace));
     let told = |e: String| format!("sheet {sheet:?}, work {work_len}, trace {trace_len}, answer {answer:#x}: {e}");
     beside_stays(&spaces.work, &work).map_err(told)?;
     beside_stays(&spaces.trace, &trace).map_err(told)?;
@@ -217,8 +216,7 @@ fn case(r: &mut Rng, m: &Model, spaces: &Spaces, most_slots: usize, found: &mut 
     found[(answer >> 48) as usize] += 1;
     let (state_len, played) = (r.pick(&[0, 15, 16, 16, 16, 17, 33]), put(r, &spaces.list, &list));
     let (state, state_before) = lend(r, &spaces.state, state_len);
-    let answer =
-        calls::replay(spaces.input.bytes(&input), spaces.list.bytes(&played), spaces.state.bytes(&state));
+    let answer = calls::replay(spaces.input.bytes(&input), spaces.list.bytes(&played), spaces.state.bytes(&state));
     let told = |e: String| format!("sheet {sheet:?}, list {list:?}, state {state_len}, answer {answer:#x}: {e}");
     beside_stays(&spaces.state, &state).map_err(told)?;
     let call = Replayed { state_before: &state_before, state_after: spaces.state.bytes(&state), answer };
