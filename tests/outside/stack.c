@@ -59,8 +59,8 @@ int main(void)
     int status = 0;
     job.kind = 2;
     size_t replay = used(&job) - thread;
-    printf("stack of a replay: %zu of %d\n", replay, RONCHHEK_STACK_SMALL);
-    if (replay > RONCHHEK_STACK_SMALL)
+    printf("stack of a replay: %zu of %d\n", replay, RONCHHEK_STACK_REPLAY);
+    if (replay > RONCHHEK_STACK_REPLAY)
         status = 1;
     job.kind = 1;
     for (size_t i = 0; i < sizeof slots / sizeof *slots; i++) {
