@@ -28,12 +28,12 @@ extern "C" {
 #define RONCHHEK_STATE_BYTES 16
 #define RONCHHEK_LONGEST_SHEET 52
 
-/* Stack that ronchhek_verdict needs, in bytes, by the slots of the work space, and that ronchhek_replay needs. The index over
- * the slots stands on the stack (16 KB, 256 KB or 1 MB by the number of slots), but the compiler keeps one frame for all
- * three, so a call with few slots takes as much as one with many. tests/outside/stack.c measures these figures.
+/* Stack that ronchhek_verdict needs, in bytes, by the slots of the work space, and that ronchhek_replay needs. The heads of the
+ * index over the slots stand on the stack: 16 KB, 256 KB or 1 MB by the number of slots, each in a frame of its own.
+ * tests/outside/stack.c measures these figures.
  */
-#define RONCHHEK_STACK_SMALL 1126400   /* up to 16,384 slots */
-#define RONCHHEK_STACK_MEDIUM 1126400  /* up to 262,144 slots */
+#define RONCHHEK_STACK_SMALL 20480     /* up to 16,384 slots */
+#define RONCHHEK_STACK_MEDIUM 266240   /* up to 262,144 slots */
 #define RONCHHEK_STACK_LARGE 1126400   /* more */
 #define RONCHHEK_STACK_REPLAY 20480
 #define RONCHHEK_SLOTS_SMALL 16384
