@@ -1,32 +1,27 @@
 -- From what the parts of the search leave to the claim: the verdict with its slots cleared, the refusals, the packed number. Assumes nothing.
-use Prim.Native.Nat.{ℕ, zero, suc, _+_, _*_, _/_, _^_, _≤_, _<_, min}
-use mathlib.Core.Path.{_≡_, refl, sym, ap, _∙_}
-use mathlib.Core.List.{List, [], _∷_}
+use Prim.Native.Nat.{ℕ, zero, suc, _*_, _/_, _≤_, _<_, min}
+use mathlib.Core.Path.{_≡_, refl, ap, _∙_}
+use mathlib.Core.List.{List}
 use native.Mathlib.Omega.{arith}
 use native.Mathlib.Decide.{decLt}
 use native.Mathlib.Nat.{min-le-left, min-le-right}
-use lib.Dec.{eqb, ltb}
-use lib.ListN.{length, getD, drop, replicate, length-replicate, getD-replicate}
+use lib.ListN.{length, getD, replicate, length-replicate}
 use borrow.Author.Tests.{eq-eqb, ne-eqb, lt-ltb, le-ltb}
-use Rattle.tasks.specs.Lists.{pick}
 use Rattle.tasks.specs.Table.{tableFault}
-use Rattle.tasks.specs.Sheet.{sheetOf, acceptedAs}
+use Rattle.tasks.specs.Sheet.{sheetOf}
 use Rattle.tasks.specs.declared.table.Table.{Table}
 use Rattle.tasks.specs.declared.sheet.Reading.{Reading}
 use Rattle.tasks.specs.declared.sheet.Reading.the-variants as Reading
-use Rattle.tasks.specs.declared.sheet.Sheet.{Sheet}
 use Rattle.levels.specs.Verdict.{Answer}
 use Rattle.levels.specs.Verdict.Answer.{Unsafe, Safe, NoRoom}
 use Rattle.levels.specs.Slots.{countOf}
 use Rattle.levels.proofs.Slots.{rule-same, stored-same, complete-same}
 use Rattle.levels.proofs.Shortest.{unsafe-room}
 use Rattle.search.specs.System.{system}
-use Rattle.search.specs.Slot.{stateAt, parentAt, maskAt, Cleared}
-use Rattle.search.specs.Claim.{slotsIn, spacesRefusal, tableRefusal, afterReading, sheetRefusal, Figures, figures, verdictFigures, refusalFigures, packed, Searched, Found, Search}
-use Rattle.search.specs.Keeping.{Spaces, Lent, Ran, RanBy, answerOf, Low}
+use Rattle.search.specs.Slot.{Cleared}
+use Rattle.search.specs.Claim.{slotsIn, spacesRefusal, tableRefusal, afterReading, sheetRefusal, Figures, figures, verdictFigures, refusalFigures, Searched, Found, Search}
+use Rattle.search.specs.Keeping.{Spaces, Lent, RanBy, answerOf, Low}
 use Rattle.search.specs.declared.run.SearchAnswer.{SearchAnswer}
-use Rattle.search.specs.declared.run.SearchAnswer.the-variants as SearchAnswer
-use Rattle.search.proofs.StoreLaws.{later-from}
 
 -- the figures of the code's answer for a verdict
 pub answer-figures : (a : Answer) → figures (answerOf a) ≡ verdictFigures a

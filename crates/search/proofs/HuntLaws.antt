@@ -1,7 +1,7 @@
 -- The laws of the hunt: the masks of a slot in increasing order, and the slots of a level. Assumes nothing.
-use Prim.Native.Nat.{ℕ, suc, _+_, _≤_, _<_}
-use mathlib.Core.Path.{_≡_, refl, sym, ap, _∙_}
-use mathlib.Core.Bool.{Bool, true, false}
+use Prim.Native.Nat.{ℕ, _+_, _≤_, _<_}
+use mathlib.Core.Path.{_≡_}
+use mathlib.Core.Bool.{true, false}
 use mathlib.Core.Logic.{_⊎_}
 use mathlib.Core.Logic._⊎_.{inl, inr}
 use mathlib.Core.List.{List}
@@ -15,12 +15,10 @@ use Rattle.tasks.specs.declared.state.State.{State}
 use Rattle.tasks.specs.declared.table.Table.{Table}
 use Rattle.tasks.proofs.Bools.{by-bool, clash}
 use Rattle.tasks.proofs.More.{full-miss}
-use Rattle.levels.specs.Verdict.{System}
-use Rattle.levels.specs.Verdict as levels
 use Rattle.levels.specs.Levels.{Calm, Hunting}
 use Rattle.levels.proofs.Explore.{hunt-next}
 use Rattle.levels.proofs.Legal.{calm-legal}
-use Rattle.search.specs.System.{step, system}
+use Rattle.search.specs.System.{system}
 use Rattle.search.specs.Masks.{submask, freeMask, follows}
 use Rattle.search.specs.Slot.{stateAt}
 use Rattle.search.specs.Keeping.{Level, MissFrom, CalmTo}

@@ -1,7 +1,7 @@
 -- The walk through the submasks of a byte visits each of them once, in increasing order; they are the legal masks. Assumes nothing.
 use Prim.Native.Nat.{ℕ, zero, suc, _+_, _-_, _*_, _/_, _%_, _^_, _≤_, _<_}
 use mathlib.Core.Path.{_≡_, refl, sym, ap, _∙_}
-use mathlib.Core.Bool.{Bool, true, false, not, _&&_, _||_}
+use mathlib.Core.Bool.{Bool, true, false, not, _||_}
 use native.Mathlib.Omega.{arith}
 use native.Mathlib.Decide.{ℕ-discrete}
 use lib.Dec.{eqb, ltb}
@@ -11,7 +11,7 @@ use Rattle.tasks.specs.Lists.{pick}
 use Rattle.tasks.specs.Tick.{bit, illegal}
 use Rattle.tasks.specs.declared.state.State.{State}
 use Rattle.tasks.specs.declared.table.Table.{Table}
-use Rattle.tasks.proofs.Bools.{by-bool, clash, and-left, and-right, both, or-right, not-yes}
+use Rattle.tasks.proofs.Bools.{clash, and-left, and-right, both}
 use Rattle.tasks.proofs.Legal.{legal-bit, bits-legal}
 use Rattle.tasks.proofs.More.{Full}
 use Rattle.search.specs.Masks.{all, byteOf, releasable, freeMask, submask, next, follows}

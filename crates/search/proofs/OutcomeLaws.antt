@@ -1,17 +1,17 @@
 -- The computation of a table's verdict is right. Assumes nothing.
-use Prim.Native.Nat.{ℕ, zero, suc, _+_, _^_, _/_, _%_, _≤_, _<_}
+use Prim.Native.Nat.{ℕ, zero, suc, _^_, _≤_, _<_}
 use mathlib.Core.Path.{_≡_, refl, sym, ap, _∙_}
-use mathlib.Core.Logic.{_⊎_, ⊎-elim}
+use mathlib.Core.Logic.{_⊎_}
 use mathlib.Core.Logic._⊎_.{inl, inr}
-use mathlib.Core.Bool.{Bool, true, false, not, _&&_, _||_}
-use mathlib.Core.List.{List, [], _∷_, _++_, List·Memᴰ, Memᴰ·append-left, Memᴰ·append-right}
-use mathlib.Core.List.List·Memᴰ.{List·Memᴰ·head, List·Memᴰ·tail}
+use mathlib.Core.Bool.{true, _&&_, _||_}
+use mathlib.Core.List.{List, [], _∷_, List·Memᴰ, Memᴰ·append-left, Memᴰ·append-right}
+use mathlib.Core.List.List·Memᴰ.{List·Memᴰ·head}
 use native.Mathlib.Omega.{arith}
 use native.Mathlib.Decide.{ℕ-discrete, decLt}
 use lib.Dec.{eqb, ltb, leb}
 use lib.Pow.{pow-mono}
-use borrow.Author.Tests.{eqb-true, eqb-false, eq-eqb, ltb-true, lt-ltb, le-ltb, leb-true}
-use Rattle.tasks.specs.Lists.{pick, any}
+use borrow.Author.Tests.{eqb-true, eq-eqb, ltb-true, leb-true}
+use Rattle.tasks.specs.Lists.{any}
 use Rattle.tasks.specs.Table.{tableFault}
 use Rattle.tasks.specs.State.{improper}
 use Rattle.tasks.specs.Tick.{bit, illegal, refusal}
@@ -20,9 +20,9 @@ use Rattle.tasks.specs.declared.table.Table.{Table}
 use Rattle.tasks.proofs.Bools.{by-bool, clash, and-left, and-right, both, or-cases}
 use Rattle.tasks.proofs.Counts.{any-some}
 use Rattle.tasks.proofs.Legal.{beyond-illegal}
-use Rattle.levels.specs.Verdict.{System, Answer, Verdict}
+use Rattle.levels.specs.Verdict.{Answer, Verdict}
 use Rattle.levels.specs.Verdict.Tick.{Refused}
-use Rattle.levels.specs.Compute.{FinitelyBranching, Outcome, outcome}
+use Rattle.levels.specs.Compute.{FinitelyBranching}
 use Rattle.levels.specs.Compute.Outcome.{Answered, OutOfFuel}
 use Rattle.levels.proofs.Compute.{outcome-right, outcome-ends}
 use Rattle.search.specs.System.{step, system}

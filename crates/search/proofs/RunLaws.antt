@@ -1,15 +1,13 @@
 -- The laws of the search's steps over the work space: it starts, goes on by a level, and ends with a verdict. Assumes nothing.
-use Prim.Native.Nat.{ℕ, suc, _+_, _-_, _*_, _≤_, _<_}
-use mathlib.Core.Path.{_≡_, refl, sym, ap, _∙_}
+use Prim.Native.Nat.{ℕ, suc, _+_, _-_, _*_}
+use mathlib.Core.Path.{_≡_, refl, ap, _∙_}
 use mathlib.Core.List.{List, [], _∷_, _++_}
 use native.Mathlib.Omega.{arith}
 use native.Mathlib.Numerals.{add-one}
-use lib.ListN.{length, getD, take, drop}
-use Rattle.tasks.specs.Table.{tableFault}
+use lib.ListN.{take, drop}
 use Rattle.tasks.specs.State.{start}
 use Rattle.tasks.specs.declared.state.State.{State}
 use Rattle.tasks.specs.declared.table.Table.{Table}
-use Rattle.levels.specs.Verdict.{System}
 use Rattle.levels.specs.Verdict.Answer.{Unsafe, Safe, NoRoom}
 use Rattle.levels.specs.Levels.{trail, Before, Hunting}
 use Rattle.levels.proofs.Index.{index-start}
@@ -17,8 +15,8 @@ use Rattle.levels.proofs.Replay.{reached}
 use Rattle.levels.proofs.Slots.{level-stored, miss-complete, filled-stored, safe-complete}
 use Rattle.levels.proofs.Steps.{search-start, search-miss, search-open, search-next, search-safe}
 use Rattle.search.specs.System.{system}
-use Rattle.search.specs.Slot.{stateAt, parentAt, maskAt, linkAt, bucketOf, Indexed, Pushed}
-use Rattle.search.specs.Keeping.{StandingIn, FillingIn, Level, MissFrom, Room, Overfull, LevelDone, LevelFull, TraceReady, traced, Spaces, Stands, RanBy}
+use Rattle.search.specs.Slot.{stateAt, parentAt, maskAt, Indexed, Pushed}
+use Rattle.search.specs.Keeping.{FillingIn, Level, MissFrom, Overfull, LevelDone, LevelFull, TraceReady, traced, Spaces, Stands, RanBy}
 use Rattle.search.specs.declared.run.SearchAnswer.the-variants as SearchAnswer
 use Rattle.search.proofs.SystemLaws.{reached-proper}
 use Rattle.search.proofs.StoreLaws.{later-from}

@@ -1,6 +1,6 @@
 -- The refusals of a sheet are 1 to 8. Assumes nothing.
 use Prim.Native.Nat.{ℕ, zero, suc, _+_, _-_, _≤_, _<_}
-use mathlib.Core.Path.{_≡_, refl, sym, ap, _∙_}
+use mathlib.Core.Path.{_≡_, ap}
 use mathlib.Core.Bool.{Bool, true, false, _||_}
 use mathlib.Core.List.{List}
 use native.Mathlib.Omega.{arith}
@@ -9,7 +9,7 @@ use lib.ListN.{length, getD}
 use Rattle.tasks.specs.Lists.{pick}
 use Rattle.tasks.specs.Table.{breaks}
 use Rattle.tasks.specs.Number.{above, numberIn, numberAt}
-use Rattle.tasks.specs.Sheet.{ruled, fieldAt, andThen, taskOf, taskThen, taskAt, withTask, afterTask, tasksFrom, fromTasks, fromCount, fromProcessors, fromPolicy, sheetOf, emptyTable, refusedWith, acceptedAs}
+use Rattle.tasks.specs.Sheet.{ruled, fieldAt, andThen, taskOf, taskThen, taskAt, withTask, afterTask, tasksFrom, fromTasks, fromCount, fromProcessors, fromPolicy, sheetOf, emptyTable, acceptedAs}
 use Rattle.tasks.specs.declared.table.Table.{Table}
 use Rattle.tasks.specs.declared.number.Number.{Number}
 use Rattle.tasks.specs.declared.number.Number.the-variants as Number

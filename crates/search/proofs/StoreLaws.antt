@@ -1,29 +1,27 @@
 -- The laws of storing: a mask of a slot, a row of masks, a level of rows. Assumes nothing.
-use Prim.Native.Nat.{ℕ, suc, _+_, _-_, _*_, _≤_, _<_}
+use Prim.Native.Nat.{ℕ, _+_, _-_, _*_, _≤_, _<_}
 use mathlib.Core.Path.{_≡_, refl, sym, ap, _∙_}
-use mathlib.Core.Bool.{Bool, true, false}
+use mathlib.Core.Bool.{true, false}
 use mathlib.Core.Logic.{_⊎_, ⊎-elim}
 use mathlib.Core.Logic._⊎_.{inl, inr}
 use mathlib.Core.List.{List}
 use native.Mathlib.Omega.{arith}
 use native.Mathlib.Numerals.{add-one}
-use lib.ListN.{length, drop}
+use lib.ListN.{drop}
 use lib.Seq.{drop-drop}
-use Rattle.tasks.specs.Table.{tableFault}
 use Rattle.tasks.specs.State.{improper}
 use Rattle.tasks.specs.Tick.{after, missed}
 use Rattle.tasks.specs.declared.state.State.{State}
 use Rattle.tasks.specs.declared.table.Table.{Table}
 use Rattle.tasks.proofs.Bools.{by-bool}
-use Rattle.levels.specs.Verdict.{System, Holds}
 use Rattle.levels.specs.Verdict.Tick.{Next, Missed, Refused}
-use Rattle.levels.specs.Levels.{Before, Row, Covered}
+use Rattle.levels.specs.Levels.{Row}
 use Rattle.levels.proofs.Slots.{filled-stored}
 use Rattle.levels.proofs.Steps.{search-row, search-known, search-push, search-close, search-room}
 use Rattle.search.specs.System.{step, system}
 use Rattle.search.specs.Masks.{submask, freeMask, follows}
-use Rattle.search.specs.Slot.{stateAt, Indexed, Pushed}
-use Rattle.search.specs.Keeping.{FillingIn, Level, Room, Known, Added, Crowded, Kept, Overfull, DoneTo, RowReady, RowTo, RowDone, RowFull, LevelTo, LevelDone, LevelFull}
+use Rattle.search.specs.Slot.{stateAt}
+use Rattle.search.specs.Keeping.{FillingIn, Level, Room, Known, Added, Crowded, Kept, DoneTo, RowReady, RowTo, RowDone, RowFull, LevelTo, LevelDone, LevelFull}
 use Rattle.search.proofs.MaskLaws.{next-submask, no-bits, free-small}
 use Rattle.search.proofs.SystemLaws.{step-missed, step-next, legal-or-refused}
 use Rattle.search.proofs.HuntLaws.{passed}

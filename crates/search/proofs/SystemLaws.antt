@@ -1,18 +1,16 @@
 -- The system of a table against the tick and the replay: its steps from a proper state, that every state reached is proper, and that its replay
 -- of a list of bytes is the replay of `tasks`. Assumes nothing.
-use Prim.Native.Nat.{ℕ, zero, suc, _+_, _≤_, _<_}
+use Prim.Native.Nat.{ℕ, suc, _+_, _≤_, _<_}
 use mathlib.Core.Path.{_≡_, refl, sym, ap, _∙_}
 use mathlib.Core.Logic.{_⊎_}
 use mathlib.Core.Logic._⊎_.{inl, inr}
-use mathlib.Core.Bool.{Bool, true, false, _&&_, _||_}
+use mathlib.Core.Bool.{true, false}
 use mathlib.Core.List.{List, [], _∷_}
 use native.Mathlib.Omega.{arith}
 use native.Mathlib.Decide.{decLt}
 use native.Mathlib.Numerals.{add-one}
-use lib.Dec.{ltb}
-use lib.ListN.{length, getD}
+use lib.ListN.{getD}
 use borrow.Author.Tests.{lt-ltb, le-ltb}
-use Rattle.tasks.specs.Lists.{pick}
 use Rattle.tasks.specs.Table.{tableFault}
 use Rattle.tasks.specs.State.{start, improper}
 use Rattle.tasks.specs.Tick.{illegal, after, missed, refusal, ticked}
@@ -21,21 +19,15 @@ use Rattle.tasks.specs.declared.state.State.{State}
 use Rattle.tasks.specs.declared.table.Table.{Table}
 use Rattle.tasks.specs.declared.tick.TickAnswer.{TickAnswer}
 use Rattle.tasks.specs.declared.tick.TickAnswer.the-variants as Answer
-use Rattle.tasks.specs.declared.tick.Ticked.{Ticked}
-use Rattle.tasks.specs.declared.play.Outcome.{Outcome}
-use Rattle.tasks.specs.declared.play.Outcome.the-variants as Outcome
-use Rattle.tasks.specs.declared.play.ReplayAnswer.{ReplayAnswer}
-use Rattle.tasks.specs.declared.play.ReplayAnswer.the-variants as Replayed
 use Rattle.tasks.specs.declared.play.Replayed.{Replayed}
 use Rattle.tasks.proofs.Bools.{by-bool}
 use Rattle.tasks.proofs.Proper.{start-proper}
 use Rattle.tasks.proofs.Answered.{ticked-refused, ticked-missed, ticked-next, refusal-none, ticked-illegal, ticked-proper}
 use Rattle.tasks.proofs.Played.{replayed-played}
-use Rattle.levels.specs.Verdict.{System, Tick, Replay, Reached, Within, replayFrom, replay}
+use Rattle.levels.specs.Verdict.{Replay, Reached, replayFrom, replay}
 use Rattle.levels.specs.Verdict as levels
 use Rattle.levels.specs.Verdict.Tick.{Next, Missed, Refused}
-use Rattle.levels.specs.Verdict.Replay.{Kept, MissedAt, RefusedAt}
-use Rattle.levels.proofs.Replay.{reach-ind, reached}
+use Rattle.levels.proofs.Replay.{reach-ind}
 use Rattle.search.specs.System.{outcome, step, system, replayOf}
 use Rattle.search.specs.Masks.{submask, freeMask}
 use Rattle.search.proofs.MaskLaws.{submask-legal, legal-submask}

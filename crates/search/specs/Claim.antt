@@ -11,7 +11,6 @@ use Rattle.tasks.specs.Sheet.{sheetOf}
 use Rattle.tasks.specs.declared.table.Table.{Table}
 use Rattle.tasks.specs.declared.sheet.Reading.{Reading}
 use Rattle.tasks.specs.declared.sheet.Reading.the-variants as Reading
-use Rattle.tasks.specs.declared.sheet.Sheet.{Sheet}
 use Rattle.levels.specs.Verdict.{Answer, Verdict}
 use Rattle.levels.specs.Verdict.Answer.{Unsafe, Safe, NoRoom}
 use Rattle.levels.specs.Slots.{SlotRule, Stored, Complete, countOf, masksOf}

@@ -9,7 +9,7 @@ use Rattle.tasks.specs.declared.table.Table.{Table}
 use Rattle.levels.specs.Compute.{Outcome, outcome}
 use Rattle.levels.specs.Compute.Outcome.{Answered, OutOfFuel}
 use Rattle.search.specs.System.{system}
-use Rattle.search.specs.Claim.{Figures, verdictFigures}
+use Rattle.search.specs.Claim.{verdictFigures}
 
 unfoldable pub sameNumbers : List ℕ → List ℕ → Bool
 sameNumbers [] [] = true

@@ -2,7 +2,7 @@
 -- The answer is kind × 2^56 + number × 2^48 + tick: kind 1 Kept, 2 Missed with the tick's number, 0 refused with the refusal's number
 -- and, for 11, the tick's. The state's bytes are those at the front of a slot: c, p of task 1, then task 2 and so on.
 use Prim.Native.Nat.{ℕ, _+_, _*_, _^_}
-use mathlib.Core.Bool.{Bool, true, false, _||_}
+use mathlib.Core.Bool.{Bool, _||_}
 use mathlib.Core.List.{List, _++_}
 use lib.Dec.{ltb, leb}
 use lib.ListN.{length, drop}

@@ -1,24 +1,17 @@
-use mathlib.Core.Path.{_≡_, refl, sym, ap, _∙_}
-use Prim.Native.Nat.{ℕ, suc, _+_, _-_, _*_, _≤_, _<_}
+-- The invariant of the slots: no mask misses from those passed; of the masks: none of those passed misses. Assumes nothing.
+use mathlib.Core.Path.{sym, _∙_}
+use Prim.Native.Nat.{_-_, _≤_, _<_}
 use mathlib.Core.Logic.{⊎-elim}
 use Rattle.search.specs.Slot.{stateAt}
 use Rattle.search.specs.System.{system}
-use Rattle.search.specs.Masks.{freeMask, submask}
 use Rattle.levels.specs.Levels.{Calm, Hunting}
 use Rattle.levels.proofs.Explore.{hunt-start}
-use Rattle.search.specs.Keeping.{Level, CalmTo}
+use Rattle.search.specs.Keeping.{CalmTo}
 use Rattle.search.proofs.HuntLaws.{calm-start, calm-next, calm-falls, calm-end, calm-full, hunt-turn, miss-from}
 use native.Mathlib.Omega.{arith}
 use borrow.Author.Needs.{needs}
 use Rattle.search.proofs.hunt.hunt.Statement.{statement}
 use Rattle.search.proofs.hunt.hunt.Tie as tie
-use Rattle.search.proofs.hunt.hunt.Reads as reads
-use Rattle.search.proofs.hunt.hunt.Lts as lts
-use Rattle.search.proofs.masks.follow.Reads as follow-reads
-use Rattle.search.proofs.masks.free_mask.Reads as free-mask-reads
-use Rattle.search.proofs.slots.load.Reads as load-reads
-use Rattle.tasks.proofs.state.State.advance.Reads as advance-reads
-use Rattle.tasks.proofs.state.State.missed.Reads as missed-reads
 
 abbrev Inv-loop : tie.InvT-loop
 Inv-loop t work lo hi i s free m₀ m = CalmTo t s free m

@@ -1,7 +1,6 @@
-use mathlib.Core.Path.{_≡_, refl, ap, sym, _∙_}
-use native.Mathlib.Omega.{arith}
+-- The next legal mask, or 256 after the last. Assumes nothing.
+use mathlib.Core.Path.{sym, _∙_}
 use borrow.Author.Needs.{needs}
-use Rattle.search.specs.Masks.{follows}
 use Rattle.search.proofs.MaskLaws.{follows-end, follows-on}
 use Rattle.search.proofs.masks.follow.Statement.{statement}
 use Rattle.search.proofs.masks.follow.Tie as tie

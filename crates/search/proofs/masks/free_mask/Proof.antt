@@ -1,11 +1,9 @@
+-- The sum of the weights of the releasable tasks. Assumes nothing.
 use native.Mathlib.Omega.{arith}
 use Rattle.search.specs.Masks.{byteOf, freeMask}
 use borrow.Author.Needs.{needs}
 use Rattle.search.proofs.masks.free_mask.Statement.{statement}
 use Rattle.search.proofs.masks.free_mask.Tie as tie
-use Rattle.search.proofs.masks.free_mask.Reads as reads
-use Rattle.search.proofs.masks.free_mask.Lts as lts
-use Rattle.search.proofs.masks.weight.Reads as weight-reads
 
 weight-requires : tie.Need-weight-requires
 weight-requires c κs = search needs

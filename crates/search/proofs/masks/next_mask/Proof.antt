@@ -1,4 +1,5 @@
-use mathlib.Core.Path.{_≡_, ap}
+-- The next submask in increasing order. Assumes nothing.
+use mathlib.Core.Path.{ap}
 use native.Mathlib.Omega.{arith}
 use lib.Bits.{bitAnd}
 use borrow.Author.Needs.{needs}

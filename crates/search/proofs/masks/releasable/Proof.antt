@@ -1,11 +1,9 @@
-use native.Mathlib.Omega.{arith}
+-- By computation. Assumes nothing.
 use mathlib.Core.Path.{refl}
 use Rattle.search.specs.Masks.{releasable}
 use borrow.Author.Needs.{needs}
 use Rattle.search.proofs.masks.releasable.Statement.{statement}
 use Rattle.search.proofs.masks.releasable.Tie as tie
-use Rattle.search.proofs.masks.releasable.Reads as reads
-use Rattle.search.proofs.masks.releasable.Lts as lts
 
 element-copy-out-p : tie.Need-element-copy-out-p
 element-copy-out-p c = search needs

@@ -1,12 +1,10 @@
+-- The bit of a releasable task, or 0. Assumes nothing.
 use native.Mathlib.Omega.{arith}
-use mathlib.Core.Path.{_≡_, refl, sym, _∙_}
+use mathlib.Core.Path.{refl, sym, _∙_}
 use Rattle.tasks.proofs.Picks.{pick-yes, pick-no}
 use borrow.Author.Needs.{needs}
 use Rattle.search.proofs.masks.weight.Statement.{statement}
 use Rattle.search.proofs.masks.weight.Tie as tie
-use Rattle.search.proofs.masks.weight.Reads as reads
-use Rattle.search.proofs.masks.weight.Lts as lts
-use Rattle.search.proofs.masks.releasable.Reads as releasable-reads
 
 releasable-requires : tie.Need-releasable-requires
 releasable-requires c κs = search needs

@@ -4,7 +4,7 @@ use Rattle.search.specs.Slot.{stateBytes}
 use Rattle.tasks.specs.declared.play.Replayed.{Replayed}
 use Rattle.tasks.specs.Replay.{replayTick, outcomeTick}
 use lib.Seq.{sets}
-use mathlib.Core.Path.{_≡_, refl, sym, ap, _∙_}
+use mathlib.Core.Path.{_≡_, sym, ap, _∙_}
 use native.Mathlib.Omega.{arith}
 use borrow.Author.Needs.{needs}
 use Rattle.search.proofs.replays.replay_table.Statement.{statement}

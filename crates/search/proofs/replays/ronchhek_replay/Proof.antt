@@ -1,8 +1,7 @@
 -- The sheet is refused, or its table is replayed. Assumes nothing.
 use Rattle.search.specs.ReplayCall.{tableNumber, tableState, callNumber, callState}
 use Rattle.tasks.specs.declared.sheet.Sheet.{Sheet}
-use mathlib.Core.Path.{_≡_, refl, sym, ap, _∙_}
-use native.Mathlib.Omega.{arith}
+use mathlib.Core.Path.{sym, ap, _∙_}
 use borrow.Author.Needs.{needs}
 use Rattle.search.proofs.replays.ronchhek_replay.Statement.{statement}
 use Rattle.search.proofs.replays.ronchhek_replay.Tie as tie

@@ -1,20 +1,13 @@
-use mathlib.Core.Path.{_≡_, refl, sym, ap, _∙_}
-use Prim.Native.Nat.{ℕ, suc, _+_, _-_, _*_, _≤_, _<_}
-use lib.ListN.{length, drop}
-use Rattle.search.specs.Slot.{Pushed}
-use Rattle.search.specs.Keeping.{Spaces, Stands, Level, Room, LevelDone, LevelFull, MissFrom, TraceReady}
+-- The invariant: the books of a level; each exit is an event of the search that gives its verdict. Assumes nothing.
+use mathlib.Core.Path.{_≡_, refl, ap, _∙_}
+use Prim.Native.Nat.{_-_}
+use lib.ListN.{length}
+use Rattle.search.specs.Keeping.{Stands}
 use Rattle.search.proofs.RunLaws.{none-indexed, first-stands, stands-level, stands-trace, next-stands, ran-miss, ran-safe, ran-full}
 use native.Mathlib.Omega.{arith}
 use borrow.Author.Needs.{needs}
 use Rattle.search.proofs.run.run_levels.Statement.{statement}
 use Rattle.search.proofs.run.run_levels.Tie as tie
-use Rattle.search.proofs.run.run_levels.Reads as reads
-use Rattle.search.proofs.run.run_levels.Lts as lts
-use Rattle.search.proofs.hunt.hunt.Reads as hunt-reads
-use Rattle.search.proofs.index.push.Reads as push-reads
-use Rattle.search.proofs.store.store_level.Reads as store-level-reads
-use Rattle.search.proofs.trace.write_trace.Reads as write-trace-reads
-use Rattle.tasks.proofs.state.State.start.Reads as start-reads
 
 abbrev Inv-loop : tie.InvT-loop
 Inv-loop t work₀ trace₀ heads₀ k lo₀ hi₀ d₀ work trace heads lo hi d = (trace ≡ trace₀) × (length heads ≡ length heads₀) × Stands t work₀ work heads k lo hi d

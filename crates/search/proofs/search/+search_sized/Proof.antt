@@ -1,4 +1,4 @@
-use native.Mathlib.Omega.{arith}
+-- The measure: the steps that are left. Assumes nothing.
 use borrow.Author.Needs.{needs}
 use Prim.Native.Nat.{ℕ, _-_, _<_}
 use borrow.Fn.Kinds.{In}

@@ -1,13 +1,10 @@
-use mathlib.Core.Path.{_≡_, refl, sym, ap, _∙_}
-use Prim.Native.Nat.{ℕ, suc, _+_, _-_, _*_, _≤_, _<_}
-use Rattle.search.specs.Claim.{Figures, figures, packed}
-use Rattle.search.specs.Keeping.{Low}
+-- Each figure fits its own bits. Assumes nothing.
+use Prim.Native.Nat.{_-_}
+use Rattle.search.specs.Claim.{packed}
 use native.Mathlib.Omega.{arith}
 use borrow.Author.Needs.{needs}
 use Rattle.search.proofs.search.pack.Statement.{statement}
 use Rattle.search.proofs.search.pack.Tie as tie
-use Rattle.search.proofs.search.pack.Reads as reads
-use Rattle.search.proofs.search.pack.Lts as lts
 
 enum-known-a : tie.Need-enum-known-a
 enum-known-a c = search needs

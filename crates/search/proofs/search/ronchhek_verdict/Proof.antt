@@ -1,15 +1,10 @@
-use mathlib.Core.Path.{_≡_, refl, sym, ap, _∙_}
-use Prim.Native.Nat.{ℕ, suc, _+_, _-_, _*_, _≤_, _<_}
-use Rattle.search.specs.Claim.{figures, Called}
+-- The figures of the search of the sheet, packed. Assumes nothing.
+use Prim.Native.Nat.{_-_}
+use Rattle.search.specs.Claim.{figures}
 use Rattle.search.proofs.ClaimLaws.{search-low}
-use native.Mathlib.Omega.{arith}
 use borrow.Author.Needs.{needs}
 use Rattle.search.proofs.search.ronchhek_verdict.Statement.{statement}
 use Rattle.search.proofs.search.ronchhek_verdict.Tie as tie
-use Rattle.search.proofs.search.ronchhek_verdict.Reads as reads
-use Rattle.search.proofs.search.ronchhek_verdict.Lts as lts
-use Rattle.search.proofs.search.pack.Reads as pack-reads
-use Rattle.search.proofs.search.search_sheet.Reads as search-sheet-reads
 
 search-sheet-requires : tie.Need-search-sheet-requires
 search-sheet-requires c κs = search needs

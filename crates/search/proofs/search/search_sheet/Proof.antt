@@ -1,19 +1,15 @@
-use Rattle.tasks.specs.Sheet.{sheetOf, acceptedAs}
-use Rattle.tasks.specs.declared.sheet.Reading.the-variants.{Accepted, Refused}
+-- The sheet is refused, or its table, which is valid, is searched. Assumes nothing.
+use Rattle.tasks.specs.Sheet.{sheetOf}
+use Rattle.tasks.specs.declared.sheet.Reading.the-variants.{Refused}
 use Rattle.search.proofs.SheetLaws.{sheet-refusal, read-accepted}
-use mathlib.Core.Path.{_≡_, refl, sym, ap, _∙_}
-use Prim.Native.Nat.{ℕ, suc, _+_, _-_, _*_, _≤_, _<_}
+use mathlib.Core.Path.{_≡_, sym, ap, _∙_}
+use Prim.Native.Nat.{_-_}
 use Rattle.tasks.proofs.RoundTrip.{read-valid}
-use Rattle.search.specs.Claim.{Search}
 use Rattle.search.proofs.ClaimLaws.{sheet-fault, sheet-read, refused-search}
 use native.Mathlib.Omega.{arith}
 use borrow.Author.Needs.{needs}
 use Rattle.search.proofs.search.search_sheet.Statement.{statement}
 use Rattle.search.proofs.search.search_sheet.Tie as tie
-use Rattle.search.proofs.search.search_sheet.Reads as reads
-use Rattle.search.proofs.search.search_sheet.Lts as lts
-use Rattle.search.proofs.search.search_valid.Reads as search-valid-reads
-use Rattle.tasks.proofs.read_sheet.Reads as read-sheet-reads
 
 read-sheet-requires : tie.Need-read-sheet-requires
 read-sheet-requires c κs = search needs

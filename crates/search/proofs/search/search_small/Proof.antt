@@ -1,13 +1,10 @@
-use mathlib.Core.Path.{_≡_, refl, sym, ap, _∙_}
-use Rattle.search.specs.Keeping.{Lent, Spaces}
+-- Heads that are all 0 index no slot. Assumes nothing.
+use mathlib.Core.Path.{refl}
 use Rattle.search.proofs.ClaimLaws.{lent-spaces}
 use native.Mathlib.Omega.{arith}
 use borrow.Author.Needs.{needs}
 use Rattle.search.proofs.search.search_small.Statement.{statement}
 use Rattle.search.proofs.search.search_small.Tie as tie
-use Rattle.search.proofs.search.search_small.Reads as reads
-use Rattle.search.proofs.search.search_small.Lts as lts
-use Rattle.search.proofs.search.search_with.Reads as search-with-reads
 
 slice-aggregate-search-with : tie.Need-slice-aggregate-search-with
 slice-aggregate-search-with c = search needs

@@ -1,15 +1,9 @@
-use mathlib.Core.Path.{_≡_, refl, sym, ap, _∙_}
-use Prim.Native.Nat.{ℕ, suc, _+_, _-_, _*_, _≤_, _<_}
-use Rattle.search.specs.Claim.{Search}
+-- The table is refused, or it is valid and is searched. Assumes nothing.
+use Prim.Native.Nat.{_-_}
 use Rattle.search.proofs.ClaimLaws.{table-fault, table-valid, refused-search}
-use native.Mathlib.Omega.{arith}
 use borrow.Author.Needs.{needs}
 use Rattle.search.proofs.search.search_table.Statement.{statement}
 use Rattle.search.proofs.search.search_table.Tie as tie
-use Rattle.search.proofs.search.search_table.Reads as reads
-use Rattle.search.proofs.search.search_table.Lts as lts
-use Rattle.search.proofs.search.search_valid.Reads as search-valid-reads
-use Rattle.tasks.proofs.table.Table.fault.Reads as fault-reads
 
 fault-requires : tie.Need-fault-requires
 fault-requires c κs = search needs

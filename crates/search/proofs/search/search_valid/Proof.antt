@@ -1,15 +1,10 @@
+-- K is 0, the trace is too short, or the spaces will do. Assumes nothing.
 use Rattle.search.proofs.ClaimLaws.{slots-is, refusal-nine, refusal-ten, refusal-zero, refused-search, found-search}
-use Rattle.search.specs.Keeping.{Lent}
-use Prim.Native.Nat.{_≤_}
-use mathlib.Core.Path.{_≡_, sym, _∙_}
+use mathlib.Core.Path.{sym, _∙_}
 use native.Mathlib.Omega.{arith}
 use borrow.Author.Needs.{needs}
 use Rattle.search.proofs.search.search_valid.Statement.{statement}
 use Rattle.search.proofs.search.search_valid.Tie as tie
-use Rattle.search.proofs.search.search_valid.Reads as reads
-use Rattle.search.proofs.search.search_valid.Lts as lts
-use Rattle.search.proofs.search.search_sized.Reads as search-sized-reads
-use Rattle.search.proofs.search.slots_in.Reads as slots-in-reads
 
 slots-in-requires : tie.Need-slots-in-requires
 slots-in-requires c κs = search needs

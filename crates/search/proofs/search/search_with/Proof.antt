@@ -1,19 +1,9 @@
-use mathlib.Core.Path.{_≡_, refl, sym, ap, _∙_}
-use Prim.Native.Nat.{ℕ, suc, _+_, _-_, _*_, _≤_, _<_}
-use lib.ListN.{length}
-use Rattle.search.specs.Slot.{Cleared}
-use Rattle.search.specs.Claim.{figures}
-use Rattle.search.specs.Keeping.{Spaces, RanBy}
+-- What the levels leave, with the links cleared, is what the claim says. Assumes nothing.
+use Prim.Native.Nat.{_-_}
 use Rattle.search.proofs.ClaimLaws.{ran-fits, ran-found}
-use native.Mathlib.Omega.{arith}
 use borrow.Author.Needs.{needs}
 use Rattle.search.proofs.search.search_with.Statement.{statement}
 use Rattle.search.proofs.search.search_with.Tie as tie
-use Rattle.search.proofs.search.search_with.Reads as reads
-use Rattle.search.proofs.search.search_with.Lts as lts
-use Rattle.search.proofs.run.run_levels.Reads as run-levels-reads
-use Rattle.search.proofs.search.count_of.Reads as count-of-reads
-use Rattle.search.proofs.slots.clear_links.Reads as clear-links-reads
 
 run-levels-requires : tie.Need-run-levels-requires
 run-levels-requires c κs = search needs

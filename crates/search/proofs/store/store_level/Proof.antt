@@ -1,15 +1,13 @@
-use mathlib.Core.Path.{_≡_, refl, sym, ap, _∙_}
-use Prim.Native.Nat.{ℕ, suc, _+_, _-_, _*_, _≤_, _<_}
+-- The invariant: the successors of the slots passed are stored. Assumes nothing.
+use mathlib.Core.Path.{_≡_, refl, _∙_}
+use Prim.Native.Nat.{_-_, _≤_}
 use lib.ListN.{length}
-use Rattle.search.specs.Keeping.{Level, LevelTo, RowDone, RowFull}
+use Rattle.search.specs.Keeping.{LevelTo}
 use Rattle.search.proofs.StoreLaws.{level-start, level-ready, level-row, level-full, level-end}
 use native.Mathlib.Omega.{arith}
 use borrow.Author.Needs.{needs}
 use Rattle.search.proofs.store.store_level.Statement.{statement}
 use Rattle.search.proofs.store.store_level.Tie as tie
-use Rattle.search.proofs.store.store_level.Reads as reads
-use Rattle.search.proofs.store.store_level.Lts as lts
-use Rattle.search.proofs.store.store_row.Reads as store-row-reads
 
 abbrev Inv-loop : tie.InvT-loop
 Inv-loop t work₀ heads₀ k lo hi n₀ i₀ work heads n i = (i ≤ hi) × (length heads ≡ length heads₀) × LevelTo t work₀ work heads k lo hi n i

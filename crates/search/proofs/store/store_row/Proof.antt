@@ -1,21 +1,14 @@
-use mathlib.Core.Path.{_≡_, refl, sym, ap, _∙_}
-use Prim.Native.Nat.{ℕ, suc, _+_, _-_, _*_, _≤_, _<_}
+-- The invariant: the successors under the masks passed are stored. Assumes nothing.
+use mathlib.Core.Path.{_≡_, refl, _∙_}
+use Prim.Native.Nat.{_-_, _≤_}
 use mathlib.Core.Logic.{⊎-elim}
 use lib.ListN.{length}
-use Rattle.search.specs.Slot.{stateAt}
-use Rattle.search.specs.Masks.{freeMask, submask, follows}
-use Rattle.search.specs.Keeping.{RowReady, RowTo, Room, Known, Added, Crowded}
+use Rattle.search.specs.Keeping.{RowTo}
 use Rattle.search.proofs.StoreLaws.{row-start, row-known, row-added, row-crowded, row-falls, row-end}
 use native.Mathlib.Omega.{arith}
 use borrow.Author.Needs.{needs}
 use Rattle.search.proofs.store.store_row.Statement.{statement}
 use Rattle.search.proofs.store.store_row.Tie as tie
-use Rattle.search.proofs.store.store_row.Reads as reads
-use Rattle.search.proofs.store.store_row.Lts as lts
-use Rattle.search.proofs.masks.follow.Reads as follow-reads
-use Rattle.search.proofs.masks.free_mask.Reads as free-mask-reads
-use Rattle.search.proofs.slots.load.Reads as load-reads
-use Rattle.search.proofs.store.try_mask.Reads as try-mask-reads
 
 abbrev Inv-loop : tie.InvT-loop
 Inv-loop t work₀ heads₀ k from i s free n₀ m₀ work heads n m = (from ≤ n) × (length heads ≡ length heads₀) × RowTo t work₀ work heads s k from n i free m

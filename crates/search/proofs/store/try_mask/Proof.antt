@@ -1,16 +1,9 @@
-use mathlib.Core.Path.{_≡_, refl, sym, ap, _∙_}
-use mathlib.Core.Bool.{true, false}
-use Rattle.search.specs.Slot.{HeldIs}
-use Rattle.search.specs.Keeping.{Room, Known, Added, Crowded}
+-- The successor is known, or is pushed as a new slot, or there is no slot left for it. Assumes nothing.
+use mathlib.Core.Path.{refl}
 use native.Mathlib.Omega.{arith}
 use borrow.Author.Needs.{needs}
 use Rattle.search.proofs.store.try_mask.Statement.{statement}
 use Rattle.search.proofs.store.try_mask.Tie as tie
-use Rattle.search.proofs.store.try_mask.Reads as reads
-use Rattle.search.proofs.store.try_mask.Lts as lts
-use Rattle.search.proofs.index.holds.Reads as holds-reads
-use Rattle.search.proofs.index.push.Reads as push-reads
-use Rattle.tasks.proofs.state.State.advance.Reads as advance-reads
 
 advance-requires : tie.Need-advance-requires
 advance-requires c κs = search needs

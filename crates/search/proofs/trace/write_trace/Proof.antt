@@ -1,19 +1,15 @@
-use mathlib.Core.Path.{_≡_, refl, sym, ap, _∙_}
-use Prim.Native.Nat.{ℕ, suc, _+_, _-_, _*_, _≤_, _<_}
+-- The invariant: the masks from the present tick on are written. Assumes nothing.
+use mathlib.Core.Path.{_≡_, refl, _∙_}
+use Prim.Native.Nat.{ℕ, _+_, _-_, _≤_, _<_}
 use mathlib.Core.List.{_++_}
 use lib.ListN.{length, drop, length-set}
 use Rattle.levels.specs.Levels.{trail}
 use Rattle.search.specs.Slot.{parentAt, maskAt}
-use Rattle.search.specs.Keeping.{TraceReady}
 use Rattle.search.proofs.TraceLaws.{trace-turn, trace-end}
 use native.Mathlib.Omega.{arith}
 use borrow.Author.Needs.{needs}
 use Rattle.search.proofs.trace.write_trace.Statement.{statement}
 use Rattle.search.proofs.trace.write_trace.Tie as tie
-use Rattle.search.proofs.trace.write_trace.Reads as reads
-use Rattle.search.proofs.trace.write_trace.Lts as lts
-use Rattle.search.proofs.slots.mask_of.Reads as mask-of-reads
-use Rattle.search.proofs.slots.parent_of.Reads as parent-of-reads
 
 abbrev Inv-loop : tie.InvT-loop
 Inv-loop work trace₀ i d m k₀ j₀ trace k j = (k ≤ d) × (length trace ≡ length trace₀) × (trail (parentAt work) (maskAt work) d i ++ drop d trace₀ ≡ trail (parentAt work) (maskAt work) k j ++ drop k trace) × ((n : ℕ) → ((q : ℕ) → q < n → parentAt work q < n) → i < n → j < n)
