@@ -3,6 +3,7 @@
 // tests/make_vectors.py makes the records and the lines expected, and says what each kind holds.
 mod number;
 mod sheet;
+mod space;
 mod table;
 mod text;
 mod tick;
