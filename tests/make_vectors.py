@@ -26,7 +26,10 @@ the writer has it.
 
 A sheet and two spaces are the sheet's length in a byte, the sheet, the length of the work space and that
 of the trace space in 4 bytes each, low byte first, and a byte f. Both spaces are filled with
-(i * 29 + f) mod 256 at place i before the search has them. The fields after the search's answer:
+(i * 29 + f) mod 256 at place i before the search has them. Which shortest list is given, the order of
+the slots, their parents and masks, and the states stored under room are free: so the fields after the
+search's answer are counts of what is not as it has to be, a digest that is the same in any order, and a
+replay.
 
     later X    bytes of the work space changed after the first N slots (after none if refused)
     trace X    bytes of the trace space changed after the first L (after none unless unsafe)
@@ -46,7 +49,7 @@ import reference as ref
 from reference import START, State, Table, number_bytes, sheet_bytes, table_of
 
 # The kinds whose vectors are made.
-KINDS = "nstwrckp"
+KINDS = "nstwrckpvq"
 
 FOLDER = Path(__file__).resolve().parent.parent / "crates" / "vectors"
 LONGEST_BODY = 4096  # what the program has room for
