@@ -1,23 +1,23 @@
--- `vectors::writer::fill` is safe and ends. The loop's invariant: `i` is at most the length. The measure is what is left of it. Assumes nothing.
+-- `vectors::space::fill` is safe and ends. The loop's invariant: `i` is at most the length. The measure is what is left of it. Assumes nothing.
 use Prim.Native.Nat.{_≤_, _-_}
 use mathlib.Core.Path.{_≡_}
 use native.Mathlib.Omega.{arith}
 use lib.ListN.{length, length-set}
 use borrow.Author.Needs.{needs}
-use Rattle.vectors.proofs.writer.fill.Statement.{statement}
-use Rattle.vectors.proofs.writer.fill.Tie as tie
+use Rattle.vectors.proofs.space.fill.Statement.{statement}
+use Rattle.vectors.proofs.space.fill.Tie as tie
 
 abbrev Inv-loop : tie.InvT-loop
-Inv-loop out₀ x₀ i₀ out x i = (i ≤ length out) × (length out ≡ length out₀)
+Inv-loop space₀ first step x₀ i₀ space x i = (i ≤ length space) × (length space ≡ length space₀)
 
 abbrev μ-loop : tie.MeasureT-loop
-μ-loop out₀ x₀ i₀ out x i = length out - i
+μ-loop space₀ first step x₀ i₀ space x i = length space - i
 
 loop-holds : tie.Need-loop-holds Inv-loop μ-loop
 loop-holds c = search needs
 
-slice-write-out : tie.Need-slice-write-out Inv-loop μ-loop
-slice-write-out c = search needs
+slice-write-space : tie.Need-slice-write-space Inv-loop μ-loop
+slice-write-space c = search needs
 
 wrapping-add-u8-requires : tie.Need-wrapping-add-u8-requires Inv-loop μ-loop
 wrapping-add-u8-requires c κs = search needs
@@ -44,7 +44,7 @@ fill-spec =
     Inv-loop
     μ-loop
     loop-holds
-    slice-write-out
+    slice-write-space
     wrapping-add-u8-requires
     add-i
     loop-less
