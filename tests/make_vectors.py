@@ -16,10 +16,28 @@ kind #, whose line is the vector's label. The kinds:
     c  a table, a state         choose, then 1 or 0 for each of the eight tasks: whether it runs
     k  a table, a state, a mask tick next, tick missed or tick refused R; then the state
     p  a table, masks           replay kept, replay missed TICK or replay refused R TICK; then the state
+    v  a sheet, two spaces      search safe N, search unsafe L N, search room K or search refused R; then
+                                the fields below
+    q  a sheet, two spaces      call, and the number that the call for C programs returns
 
 A table is 27 bytes: policy, m, n, eight C, eight D, eight P. A state is 16 bytes: c and p of each of
 eight tasks, printed in that order. An output is filled with (i * 37 + 11) mod 256 at place i before
 the writer has it.
+
+A sheet and two spaces are the sheet's length in a byte, the sheet, the length of the work space and that
+of the trace space in 4 bytes each, low byte first, and a byte f. Both spaces are filled with
+(i * 29 + f) mod 256 at place i before the search has them. Which shortest list is given, the order of
+the slots, their parents and masks, and the states stored under room are free: so the fields after the
+search's answer are counts of what is not as it has to be, a digest that is the same in any order, and a
+replay.
+
+    later X    bytes of the work space changed after the first N slots (after none if refused)
+    trace X    bytes of the trace space changed after the first L (after none unless unsafe)
+    spare X    of the first N slots those with last three bytes that are not all 0 (not if refused)
+    wrong X    of the first N slots those with an earlier slot's state, or with a parent or a mask that
+               do not lead to their state (not if refused)
+    digest X   the sum modulo 2^32 of a hash of the 16 bytes of each stored state (safe, unsafe)
+    replay X   what replaying the first L bytes of the trace space answers (unsafe)
 """
 import sys
 from pathlib import Path
@@ -31,10 +49,11 @@ import reference as ref
 from reference import START, State, Table, number_bytes, sheet_bytes, table_of
 
 # The kinds whose vectors are made.
-KINDS = "nstwrckp"
+KINDS = "nstwrckpvq"
 
 FOLDER = Path(__file__).resolve().parent.parent / "crates" / "vectors"
 LONGEST_BODY = 4096  # what the program has room for
+WORK, TRACE = 65_520, 8_192  # the longest spaces that the program has
 
 
 class Vector(NamedTuple):
@@ -127,6 +146,38 @@ def replay_vector(label: str, table: Table, masks: bytes) -> Vector:
     }[played.answer]
     line = f"replay {answer} {numbers(ref.state_bytes(played.state))}"
     return Vector("p", label, table_bytes(table) + masks, line)
+
+
+def state_hash(state: State) -> int:
+    """FNV-1a of the 16 bytes that a slot has for the state."""
+    value = 2166136261
+    for byte in ref.state_bytes(state):
+        value = (value ^ byte) * 16777619 % 2**32
+    return value
+
+
+def search_body(sheet: bytes, work: int, trace: int, fill: int) -> bytes:
+    assert work <= WORK and trace <= TRACE and len(sheet) < 256
+    return bytes([len(sheet)]) + sheet + work.to_bytes(4, "little") + trace.to_bytes(4, "little") + bytes([fill])
+
+
+def search_vector(label: str, sheet: bytes, work: int, trace: int, fill: int) -> Vector:
+    found = ref.search_sheet(sheet, work, trace)
+    line = f"search {found.kind} " + (f"{found.L} " if found.kind == "unsafe" else "") + f"{found.N} later 0 trace 0"
+    if found.kind != "refused":
+        line += " spare 0 wrong 0"
+    if found.kind in ("safe", "unsafe"):
+        stored = ref.stored_states(ref.read_sheet(sheet), found)
+        assert len(stored) == found.N
+        line += f" digest {sum(map(state_hash, stored)) % 2**32}"
+    if found.kind == "unsafe":
+        line += f" replay missed {found.L}"
+    return Vector("v", label, search_body(sheet, work, trace, fill), line)
+
+
+def call_vector(label: str, sheet: bytes, work: int, trace: int, fill: int) -> Vector:
+    number = ref.verdict_number(ref.search_sheet(sheet, work, trace))
+    return Vector("q", label, search_body(sheet, work, trace, fill), f"call {number}")
 
 
 # ----------------------------------------------------------------------
@@ -533,6 +584,168 @@ def replay_vectors() -> Iterator[Vector]:
 
 
 # ----------------------------------------------------------------------
+# Searches
+
+# Tables on one core whose shortest list that misses has L ticks: policy, L and the tasks.
+MISSES = [
+    (0, 2, [(2, 4, 5), (1, 2, 4)]),
+    (0, 4, [(9, 15, 15), (4, 7, 7)]),
+    (0, 6, [(4, 4, 4), (1, 6, 9)]),
+    (0, 7, [(2, 3, 3), (2, 4, 4)]),
+    (0, 8, [(11, 11, 11), (1, 8, 8)]),
+    (0, 9, [(1, 8, 9), (9, 10, 13)]),
+    (1, 3, [(1, 1, 2), (2, 3, 3)]),
+    (1, 5, [(1, 2, 2), (3, 5, 5)]),
+    (1, 6, [(3, 7, 10), (2, 5, 5), (2, 7, 8)]),
+    (1, 8, [(1, 7, 7), (15, 16, 17)]),
+    (1, 10, [(3, 5, 7), (22, 27, 30)]),
+    (1, 11, [(5, 5, 7), (6, 14, 16)]),
+    (1, 13, [(1, 2, 2), (7, 13, 15)]),
+    (2, 2, [(2, 7, 8), (1, 1, 2)]),
+    (2, 4, [(1, 3, 3), (4, 6, 9)]),
+    (2, 5, [(1, 4, 4), (13, 14, 14)]),
+    (2, 7, [(1, 6, 6), (10, 14, 15)]),
+    (2, 8, [(2, 3, 3), (2, 4, 5)]),
+    (2, 10, [(5, 5, 5), (1, 10, 12)]),
+    (3, 3, [(9, 10, 14), (1, 1, 2)]),
+    (3, 6, [(4, 6, 7), (1, 2, 2)]),
+    (3, 9, [(9, 14, 15), (3, 6, 6)]),
+    (3, 10, [(1, 2, 3), (1, 1, 3), (4, 10, 13)]),
+    (3, 12, [(4, 4, 4), (4, 15, 18)]),
+    (3, 13, [(1, 1, 2), (7, 13, 16)]),
+]
+
+
+class Search(NamedTuple):
+    """A sheet and two spaces."""
+
+    label: str
+    sheet: bytes
+    work: int = WORK
+    trace: int = TRACE
+    fill: int = 90
+
+    def with_slots(self, K: int) -> "Search":
+        """The same with K slots, and no byte more than it takes."""
+        return self._replace(label=f"{self.label}, K {K}", work=24 * K, trace=K)
+
+
+def of_table(label: str, policy: int, m: int, tasks: list[tuple[int, int, int]]) -> Search:
+    return Search(label, sheet_bytes(table_of(policy, m, tasks)), fill=(37 * policy + m) % 256)
+
+
+def count_of(search: Search) -> int:
+    """N of a search that is Safe or Unsafe."""
+    found = ref.search_sheet(search.sheet, search.work, search.trace)
+    assert found.kind in ("safe", "unsafe"), search.label
+    return found.N
+
+
+def benchmark_searches() -> Iterator[Search]:
+    """Section "Benchmark tables", starred or not."""
+    two = of_table("benchmark 1/1 (1,2,2),(1,2,2)", 1, 1, TWO)
+    yield from (two, two.with_slots(3))
+    urgent = Search("benchmark 0/1 (1,1,2),(2,4,4)", PAPER)
+    yield from (urgent, urgent.with_slots(3))
+    yield of_table("benchmark 1/1 (2,2,2),(1,2,2)", 1, 1, [(2, 2, 2), (1, 2, 2)])
+    yield of_table("benchmark 1/1 (1,1,1)", 1, 1, [(1, 1, 1)])
+    yield of_table("benchmark 1/1 (1,1,2),(1,1,2)", 1, 1, [(1, 1, 2)] * 2).with_slots(1)
+    long_gap = of_table("benchmark 1/1 (1,1,200)", 1, 1, [(1, 1, 200)])
+    yield from (long_gap, long_gap.with_slots(200), long_gap.with_slots(199))
+    yield Search("benchmark: field count 4", sheet_of(4, *PAPER[1:]))
+    yield Search("benchmark: C 201", sheet_of(3, 1, 1, 1, 201, 201, 201))
+    yield Search("benchmark: a number 80 00", bytes.fromhex("8000"))
+    yield Search("benchmark: a number 80 and the end", bytes.fromhex("80"))
+
+
+def space_searches() -> Iterator[Search]:
+    """The lengths of the spaces, and what they held before."""
+    paper = Search("the paper's sheet", PAPER)
+    two = of_table("two tasks", 1, 1, TWO)
+    for work, trace in ((0, 0), (0, TRACE), (1, 1), (23, 5), (24, 0), (24, 1), (47, 1), (48, 1), (48, 2)):
+        yield two._replace(label=f"two tasks, work {work}, trace {trace}", work=work, trace=trace)
+    for work, trace in ((95, 3), (95, 4), (96, 3), (96, 4), (96, 5), (97, 4), (119, 4), (119, 100), (120, 4)):
+        yield paper._replace(label=f"the paper's sheet, work {work}, trace {trace}", work=work, trace=trace)
+    yield paper._replace(label="the paper's sheet, a trace one too short for K", trace=2729)
+    yield paper._replace(label="the paper's sheet, a trace just long enough for K", trace=2730)
+    for fill in (0, 1, 128, 255):
+        yield paper._replace(label=f"the paper's sheet, spaces filled from {fill}", fill=fill)
+        yield two._replace(label=f"two tasks, spaces filled from {fill}", fill=fill, work=5 * 24 + 7, trace=9)
+
+
+def refused_searches() -> Iterator[Search]:
+    """A sheet's refusal comes before 9 and 10."""
+    sheets = (
+        (1, PAPER[:-1]),
+        (2, PAPER[:-1] + b"\x84\x00"),
+        (3, sheet_of(2, *PAPER[1:])),
+        (4, sheet_of(3, 4, *PAPER[2:])),
+        (5, sheet_of(3, 0, 9, *PAPER[3:])),
+        (6, sheet_of(3, 0, 1, 0, *PAPER[4:])),
+        (7, sheet_of(*PAPER[:-1], 3)),
+        (8, PAPER + b"\x00"),
+    )
+    for number, sheet in sheets:
+        yield Search(f"{number} before 9: empty spaces", sheet, 0, 0)
+        yield Search(f"{number} before 10: no trace", sheet, 240 + number, 0, 17 * number)
+    yield Search("no sheet and empty spaces", b"", 0, 0)
+    yield Search("8: 255 bytes", PAPER + bytes(245))
+
+
+def policy_searches() -> Iterator[Search]:
+    """Each kind of answer under each policy."""
+    for policy, name in enumerate(NAMES):
+        for tasks in ([(1, 2, 3), (2, 4, 5)], [(1, 1, 2), (2, 4, 4)]):
+            search = of_table(f"{name} {tasks}", policy, 1, tasks)
+            N = count_of(search)
+            yield from (search.with_slots(K) for K in (N - 1, N, N + 1, 1))
+        three = of_table(f"{name}, three tasks on two cores", policy, 2, [(2, 3, 4), (1, 4, 5), (1, 5, 6)])
+        N = count_of(three)
+        yield three
+        yield three.with_slots(N - 1)._replace(work=24 * N - 1)
+        yield of_table(f"{name}, a task that fits a slot", policy, 1, [(1, 1, 1)]).with_slots(1)
+        # C = i, D = P = 2(i + 1)
+        steps = [(i, 2 * i + 2, 2 * i + 2) for i in range(1, 5)]
+        yield of_table(f"{name}, three tasks of document 000", policy, 1, steps[:3])
+        yield of_table(f"{name}, four tasks of document 000", policy, 2, steps)
+        # many tasks, many cores
+        yield of_table(f"{name}, eight tasks, five cores", policy, 5, [(1, 1, 1)] * 2 + [(1, 2, 2)] * 6)
+        yield of_table(f"{name}, eight tasks, seven cores", policy, 7, [(1, 1, 2)] * 8)
+        yield of_table(f"{name}, more cores than tasks", policy, 8, [(3, 4, 6), (2, 2, 5)])
+    yield of_table("eight tasks, eight cores", 3, 8, [(1, 1, 2)] * 8)
+    yield of_table("eight tasks that fit a slot", 0, 8, [(1, 1, 1)] * 8).with_slots(1)
+
+
+def miss_searches() -> Iterator[Search]:
+    """Shortest lists of 1 to 14 ticks. A task that is released at every tick starves another."""
+    starved = [(policy, L, [(1, 1, 1), (1, L, L)]) for L in (1, 11, 14) for policy in range(4)]
+    for policy, L, tasks in MISSES + starved:
+        search = of_table(f"{NAMES[policy]} {tasks}, L {L}", policy, 1, tasks)
+        assert ref.search_sheet(search.sheet, WORK, TRACE).L == L, search.label
+        yield search.with_slots(count_of(search))
+
+
+def search_vectors() -> Iterator[Vector]:
+    for searches in (benchmark_searches, space_searches, refused_searches, policy_searches, miss_searches):
+        yield from (search_vector(*search) for search in searches())
+
+
+def call_searches() -> Iterator[Search]:
+    yield from benchmark_searches()
+    yield from (search for search in refused_searches() if not search.work)
+    paper = Search("the paper's sheet", PAPER)
+    for work, trace in ((0, 0), (23, 1), (24, 0), (24, 1), (95, 3), (96, 4)):
+        yield paper._replace(label=f"the paper's sheet, work {work}, trace {trace}", work=work, trace=trace)
+    for policy, name in enumerate(NAMES):
+        yield of_table(f"{name}, four tasks of document 000", policy, 2, [(i, 2 * i + 2, 2 * i + 2) for i in range(1, 5)])
+        yield of_table(f"{name}, L 14", policy, 1, [(1, 1, 1), (1, 14, 14)])
+
+
+def call_vectors() -> Iterator[Vector]:
+    yield from (call_vector(*search) for search in call_searches())
+
+
+# ----------------------------------------------------------------------
 # The files
 
 MAKERS = {
@@ -544,6 +757,8 @@ MAKERS = {
     "c": choose_vectors,
     "k": tick_vectors,
     "p": replay_vectors,
+    "v": search_vectors,
+    "q": call_vectors,
 }
 
 

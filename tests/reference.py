@@ -7,6 +7,7 @@ meant to be read beside the paper. Each function's docstring names the section t
 A sheet and an output are `bytes`. Tasks are counted from 0 here and from 1 in the paper, so task i
 of this file is the paper's task i + 1 and has bit i of a mask.
 """
+from functools import lru_cache
 from itertools import product
 from typing import Iterator, NamedTuple
 
@@ -327,13 +328,13 @@ def slots(work_length: int) -> int:
     return min(work_length // SLOT, MOST_SLOTS)
 
 
-def successors(table: Table, state: State) -> Iterator[tuple[int, bool, State]]:
+@lru_cache(maxsize=None)
+def successors(table: Table, state: State) -> tuple[tuple[int, bool, State], ...]:
     """Every legal mask from a proper state of a valid table, with whether its tick misses, and the
-    state after it. An illegal mask is refused, and a refused list neither misses nor reaches."""
-    for mask in range(256):
-        if is_legal(table, state, mask):
-            missed, after = tick(table, state, mask)
-            yield mask, missed, after
+    state after it. An illegal mask is refused, and a refused list neither misses nor reaches; masks
+    from 2^n on have a bit for no task. What was found is kept: tables are searched several times."""
+    masks = [mask for mask in range(2**table.n) if is_legal(table, state, mask)]
+    return tuple((mask, *tick(table, state, mask)) for mask in masks)
 
 
 class Level(NamedTuple):
@@ -424,6 +425,15 @@ def search_sheet(sheet: bytes, work_length: int, trace_length: int) -> Verdict:
     except Refused as refused:
         return Verdict("refused", 0, refused.number)
     return search(table, work_length, trace_length)
+
+
+def stored_states(table: Table, found: Verdict) -> frozenset[State]:
+    """Section "The search": the states of the first N slots, under Safe all that lists reach without
+    a miss, under Unsafe those reached in at most L - 1 ticks. Under No room they are free."""
+    for level in levels(table):
+        if found.kind == "unsafe" and level.ticks == found.L - 1:
+            break
+    return level.reached
 
 
 def verdict_number(found: Verdict) -> int:

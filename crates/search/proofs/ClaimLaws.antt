@@ -34,6 +34,38 @@ answer-count (Unsafe l n) = refl
 answer-count (Safe n) = refl
 answer-count (NoRoom n) = refl
 
+module _ {t : Table} {w trace heads : List ℕ} {k : ℕ} (spaces : Spaces t w trace heads k) where
+  module _ {w₁ trace′ : List ℕ} {a : SearchAnswer} (x : RanBy t w w₁ trace trace′ k a) where
+    count : figures a .N ≡ countOf (x .answer)
+    count = ap (λ r. figures r .N) (x .is) ∙ answer-count (x .answer)
+
+    -- the count's slots fit the work space
+    pub ran-fits : length w₁ ≡ length w → 24 * figures a .N ≤ length w₁
+    ran-fits e = let f = spaces .fits in let m = x .ran .most in omega (arith, count)
+
+    -- with the links cleared it is the claim
+    pub ran-found : {w₂ : List ℕ} → k ≡ slotsIn w → length w₁ ≡ length w → length trace′ ≡ length trace → Cleared w₁ w₂ (figures a .N) → Found t w w₂ trace trace′ (figures a)
+    ran-found {w₂} is len trace-len y =
+        let z : Cleared w₁ w₂ (countOf (x .answer)) = rw count at y in
+        let r = x .ran in
+        record {
+          answer = x .answer;
+          is = ap figures (x .is) ∙ answer-figures (x .answer);
+          searched =
+              record {
+                verdict = rw (← is) (r .verdict);
+                rule = rule-same (system t) (r .rule) (r .some) (z .states) (z .parents) (z .masks);
+                most = rw (← is) (r .most);
+                stored = stored-same (system t) (r .stored) (z .states);
+                complete = complete-same (system t) (x .answer) (r .complete) (z .states);
+                formed = z .formed;
+                work-rest = z .later ∙ r .later;
+                work-length = z .len ∙ len;
+                trace-rest = r .rest;
+                trace-length = trace-len;
+              };
+        }
+
 -- ---- K and the refusals
 
 module _ (w trace : List ℕ) where
@@ -78,40 +110,6 @@ module _ (w trace : List ℕ) where
     pub sheet-read : sheetOf sheet .answer ≡ Reading.Accepted → sheetRefusal sheet w trace ≡ spacesRefusal w trace
     unfolding sheetRefusal
     sheet-read e = ap (λ a. afterReading a (spacesRefusal w trace)) e
-
--- ---- the verdict with its slots cleared
-
-module _ {t : Table} {w trace : List ℕ} {k : ℕ} (lent : Lent t w trace k) where
-  module _ {w₁ trace′ : List ℕ} {a : SearchAnswer} (x : RanBy t w w₁ trace trace′ k a) where
-    count : figures a .N ≡ countOf (x .answer)
-    count = ap (λ r. figures r .N) (x .is) ∙ answer-count (x .answer)
-
-    -- the count's slots fit the work space
-    pub ran-fits : length w₁ ≡ length w → 24 * figures a .N ≤ length w₁
-    ran-fits e = let f = lent .is in let m = x .ran .most in omega (arith, count, slots-fit w trace)
-
-    -- with the links cleared it is the claim
-    pub ran-found : {w₂ : List ℕ} → length w₁ ≡ length w → length trace′ ≡ length trace → Cleared w₁ w₂ (figures a .N) → Found t w w₂ trace trace′ (figures a)
-    ran-found {w₂} len trace-len y =
-        let z : Cleared w₁ w₂ (countOf (x .answer)) = rw count at y in
-        let r = x .ran in
-        record {
-          answer = x .answer;
-          is = ap figures (x .is) ∙ answer-figures (x .answer);
-          searched =
-              record {
-                verdict = rw (← lent .is) (r .verdict);
-                rule = rule-same (system t) (r .rule) (r .some) (z .states) (z .parents) (z .masks);
-                most = rw (← lent .is) (r .most);
-                stored = stored-same (system t) (r .stored) (z .states);
-                complete = complete-same (system t) (x .answer) (r .complete) (z .states);
-                formed = z .formed;
-                work-rest = z .later ∙ r .later;
-                work-length = z .len ∙ len;
-                trace-rest = r .rest;
-                trace-length = trace-len;
-              };
-        }
 
 -- a search that is refused, and one that is not
 pub refused-search : {q r : ℕ} {t : Table} {w trace : List ℕ} → q ≡ r → 0 < r → Search q t w w trace trace (refusalFigures r)

@@ -1,7 +1,6 @@
 -- The laws of the index over slots: it starts empty, is walked by keys, and grows by a pushed slot. Assumes nothing.
 use Prim.Native.Nat.{ℕ, zero, suc, _+_, _*_, _≤_, _<_}
 use mathlib.Core.Path.{_≡_, refl, sym, ap, _∙_}
-use mathlib.Core.Logic.{_≢_}
 use mathlib.Core.List.{List}
 use native.Mathlib.Omega.{arith}
 use native.Mathlib.Numerals.{add-one}
@@ -10,11 +9,10 @@ use lib.Seq.{getD-set-same, getD-set-other}
 use mir.Syntax.{w8}
 use mir.Val.{Fits}
 use Rattle.tasks.specs.declared.state.State.{State}
-use Rattle.levels.specs.Index.{Index, Walk}
+use Rattle.levels.specs.Index.{Index}
 use Rattle.levels.specs.Verdict.{Holds}
-use Rattle.levels.proofs.Index.{index-start, index-push, walk-end}
-use Rattle.search.specs.declared.index.Key.{Key}
-use Rattle.search.specs.Slot.{stateAt, parentAt, maskAt, linkAt, keyOf, keyAt, bucketFor, bucketOf, Indexed, Pushed}
+use Rattle.levels.proofs.Index.{index-start, index-push}
+use Rattle.search.specs.Slot.{stateAt, linkAt, keyOf, keyAt, bucketFor, bucketOf, Indexed, Pushed}
 use Rattle.search.proofs.SlotLaws.{same-state, same-parent, same-mask}
 use Rattle.search.proofs.SlotLaws.{withSlot, slot-long, slot-old, link-old, slot-state, slot-parent, slot-mask, slot-link, slot-later}
 use Rattle.search.proofs.KeyLaws.{key-at, Bytes, slot-bytes, one-state}

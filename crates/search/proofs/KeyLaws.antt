@@ -1,7 +1,7 @@
 -- The laws of keys: a state is known by its key. Assumes nothing.
-use Prim.Native.Nat.{ℕ, zero, suc, _+_, _*_, _/_, _%_, _≤_, _<_}
+use Prim.Native.Nat.{ℕ, zero, suc, _+_, _*_, _/_, _%_, _<_}
 use mathlib.Core.Path.{_≡_, refl, sym, ap, _∙_}
-use mathlib.Core.Bool.{Bool, true, false, _&&_}
+use mathlib.Core.Bool.{true, false, _&&_}
 use mathlib.Core.List.{List}
 use native.Mathlib.Omega.{arith}
 use native.Mathlib.Nat.{add-assoc, add-zero, div-add-mod'}
@@ -15,7 +15,7 @@ use Rattle.tasks.specs.declared.state.State.{State}
 use Rattle.tasks.proofs.Bools.{and-left, and-right, clash}
 use Rattle.tasks.proofs.Fill.{eight-at}
 use Rattle.search.specs.declared.index.Key.{Key}
-use Rattle.search.specs.Slot.{four, fourAt, stateAt, wordOf, keyOf, keyAt, sameKeys}
+use Rattle.search.specs.Slot.{fourAt, stateAt, wordOf, keyOf, keyAt, sameKeys}
 
 -- the key of a slot is that of its state
 pub key-at : (w : List ℕ) (i : ℕ) → keyAt w i ≡ keyOf (stateAt w i)

@@ -13,3 +13,4 @@ pub mod TraceLaws
 pub mod RunLaws
 pub mod SheetLaws
 pub mod ClaimLaws
+pub mod CallLaws

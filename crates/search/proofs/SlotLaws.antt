@@ -3,10 +3,10 @@ use Prim.Native.Nat.{ℕ, zero, suc, _+_, _-_, _*_, _/_, _%_, _≤_, _<_}
 use mathlib.Core.Path.{_≡_, refl, sym, ap, _∙_}
 use mathlib.Core.List.{List, [], _∷_, _++_, append-nil, append-assoc}
 use native.Mathlib.Omega.{arith}
-use native.Mathlib.Nat.{add-assoc, add-zero, zero-add, div-div-eq-div-mul, div-add-mod', mod-eq-of-lt}
+use native.Mathlib.Nat.{add-assoc, div-div-eq-div-mul, div-add-mod', mod-eq-of-lt}
 use native.Mathlib.Numerals.{add-one}
 use lib.ListN.{length, getD, take, drop, set, length-append, length-drop, drop-of-length-le, List·getD-append}
-use lib.Seq.{ext-getD, sets, sets-eq, take-all, drop-drop, length-take-le, getD-take, getD-append-add, drop-at}
+use lib.Seq.{sets, sets-eq, take-all, drop-drop, length-take-le, getD-take, getD-append-add, drop-at}
 use Rattle.tasks.specs.Lists.{eight}
 use Rattle.tasks.specs.declared.state.State.{State}
 use Rattle.tasks.proofs.Fill.{eight-at, filled-end}

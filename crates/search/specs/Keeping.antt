@@ -1,6 +1,6 @@
 -- Only the search's bookkeeping, no part of its claim: what its parts ask of each other and promise.
 use mathlib.Core.Path.{_≡_}
-use mathlib.Core.Bool.{Bool, true, false}
+use mathlib.Core.Bool.{true, false}
 use mathlib.Core.List.{List, _∷_, _++_}
 use Prim.Native.Nat.{ℕ, suc, _+_, _*_, _≤_, _<_}
 use lib.ListN.{length, getD, take, drop}
@@ -14,7 +14,7 @@ use Rattle.levels.specs.Verdict.Answer.{Unsafe, Safe, NoRoom}
 use Rattle.levels.specs.Verdict as levels
 use Rattle.levels.specs.Slots.{SlotRule, Stored, Complete, countOf, masksOf}
 use Rattle.levels.specs.Levels.{trail, Before, Row, Hunting, Standing, Filling}
-use Rattle.search.specs.Claim.{slotsIn, Figures, figures, Found}
+use Rattle.search.specs.Claim.{slotsIn, Figures}
 use Rattle.search.specs.System.{step, system}
 use Rattle.search.specs.Slot.{stateAt, parentAt, maskAt, Indexed, Pushed}
 use Rattle.search.specs.Masks.{submask}
@@ -225,11 +225,6 @@ pub record RanBy (t : Table) (w w′ trace trace′ : List ℕ) (k : ℕ) (r : S
   pub answer : Answer
   pub is : r ≡ answerOf answer
   pub ran : Ran t w w′ trace trace′ k answer
-
--- with its links cleared it is the claim
-abbrev pub LentIs : Table → List ℕ → List ℕ → List ℕ → List ℕ → ℕ → Bool → SearchAnswer → Type 0
-LentIs t w w′ trace trace′ k true r = Found t w w′ trace trace′ (figures r)
-LentIs t w w′ trace trace′ k false r = RanBy t w w′ trace trace′ k r
 
 -- ---- the packed number
 

@@ -2,8 +2,8 @@
 ghost use mathlib.Core.Path.{_≡_};
 ghost use Prim.Native.Nat.{_/_, _^_, _<_, min};
 ghost use Rattle.tasks.specs.Table.{tableFault};
-ghost use Rattle.search.specs.Claim.{spacesRefusal, figures, Search, TableSearch, SheetSearch, packed, Called};
-ghost use Rattle.search.specs.Keeping.{Lent, RanBy, LentIs, Low};
+ghost use Rattle.search.specs.Claim.{slotsIn, spacesRefusal, figures, Found, Search, TableSearch, SheetSearch, packed, Called};
+ghost use Rattle.search.specs.Keeping.{Lent, Spaces, Low};
 use crate::run::SearchAnswer;
 use crate::run::run_levels;
 use crate::slots::clear_links;
@@ -30,53 +30,69 @@ fn count_of(a: SearchAnswer) -> usize
     }
 }
 
+// Searches with the heads given, and clears the links that the slots held meanwhile.
+fn search_with(
+    t: Table,
+    work: &mut [u8],
+    trace: &mut [u8],
+    heads: &mut [u32],
+    k: usize,
+) -> SearchAnswer
+    requires { ⌜ Spaces t (now work) (now trace) (now heads) k × (k ≡ slotsIn (now work)) ⌝ }
+    ensures { λ r. ⌜ Found t (now (work .entry)) (now (work .exit)) (now (trace .entry)) (now (trace .exit)) (figures r) ⌝ }
+{
+    let a = run_levels(t, work, trace, heads, k);
+    let n = count_of(a);
+    clear_links(work, n);
+    a
+}
+
 // Up to 16,384 slots: 16 KB of heads on the stack.
-fn run_small(t: Table, work: &mut [u8], trace: &mut [u8], k: usize) -> SearchAnswer
+fn search_small(t: Table, work: &mut [u8], trace: &mut [u8], k: usize) -> SearchAnswer
     requires { ⌜ Lent t (now work) (now trace) k ⌝ }
-    ensures { λ r. ⌜ RanBy t (now (work .entry)) (now (work .exit)) (now (trace .entry)) (now (trace .exit)) k r ⌝ }
+    ensures { λ r. ⌜ Found t (now (work .entry)) (now (work .exit)) (now (trace .entry)) (now (trace .exit)) (figures r) ⌝ }
 {
     let mut heads = [0u32; 4096];
-    run_levels(t, work, trace, &mut heads, k)
+    search_with(t, work, trace, &mut heads, k)
 }
 
-// Up to 262,144 slots: 256 KB of heads on the stack.
-fn run_medium(t: Table, work: &mut [u8], trace: &mut [u8], k: usize) -> SearchAnswer
+// Up to 262,144 slots: 256 KB of heads.
+fn search_medium(t: Table, work: &mut [u8], trace: &mut [u8], k: usize) -> SearchAnswer
     requires { ⌜ Lent t (now work) (now trace) k ⌝ }
-    ensures { λ r. ⌜ RanBy t (now (work .entry)) (now (work .exit)) (now (trace .entry)) (now (trace .exit)) k r ⌝ }
+    ensures { λ r. ⌜ Found t (now (work .entry)) (now (work .exit)) (now (trace .entry)) (now (trace .exit)) (figures r) ⌝ }
 {
     let mut heads = [0u32; 65536];
-    run_levels(t, work, trace, &mut heads, k)
+    search_with(t, work, trace, &mut heads, k)
 }
 
-// Up to 1,000,000 slots: 1 MB of heads on the stack.
-fn run_large(t: Table, work: &mut [u8], trace: &mut [u8], k: usize) -> SearchAnswer
+// Up to 1,000,000 slots: 1 MB of heads.
+fn search_large(t: Table, work: &mut [u8], trace: &mut [u8], k: usize) -> SearchAnswer
     requires { ⌜ Lent t (now work) (now trace) k ⌝ }
-    ensures { λ r. ⌜ RanBy t (now (work .entry)) (now (work .exit)) (now (trace .entry)) (now (trace .exit)) k r ⌝ }
+    ensures { λ r. ⌜ Found t (now (work .entry)) (now (work .exit)) (now (trace .entry)) (now (trace .exit)) (figures r) ⌝ }
 {
     let mut heads = [0u32; 262144];
-    run_levels(t, work, trace, &mut heads, k)
+    search_with(t, work, trace, &mut heads, k)
 }
 
-// Searches with k slots and heads by their number; then, where asked, clears the links that the slots held meanwhile.
-// The clearing is a call around its own search: a function that calls itself is not inlined, nor are the heads' owners into it,
-// so that each number of heads has a stack frame of its own and a small search does not pay for a large one.
-fn search_lent(t: Table, work: &mut [u8], trace: &mut [u8], k: usize, clear: bool) -> SearchAnswer
+// The search with the heads for a work space of k slots, chosen step by step from the fewest on. It calls itself: the compiler
+// then keeps each size's heads in a frame of their own, so that a small work space does not pay a large one's stack.
+fn search_sized(t: Table, work: &mut [u8], trace: &mut [u8], k: usize, step: usize) -> SearchAnswer
     requires { ⌜ Lent t (now work) (now trace) k ⌝ }
-    ensures { λ r. ⌜ LentIs t (now (work .entry)) (now (work .exit)) (now (trace .entry)) (now (trace .exit)) k clear r ⌝ }
+    ensures { λ r. ⌜ Found t (now (work .entry)) (now (work .exit)) (now (trace .entry)) (now (trace .exit)) (figures r) ⌝ }
 {
-    if clear {
-        let a = search_lent(t, work, trace, k, false);
-        let n = count_of(a);
-        clear_links(work, n);
-        return a;
+    if 1 < step {
+        return search_large(t, work, trace, k);
+    }
+    if step == 1 {
+        if k <= 262144 {
+            return search_medium(t, work, trace, k);
+        }
+        return search_sized(t, work, trace, k, 2);
     }
     if k <= 16384 {
-        return run_small(t, work, trace, k);
+        return search_small(t, work, trace, k);
     }
-    if k <= 262144 {
-        return run_medium(t, work, trace, k);
-    }
-    run_large(t, work, trace, k)
+    search_sized(t, work, trace, k, 1)
 }
 
 // The search of a valid table.
@@ -91,7 +107,7 @@ fn search_valid(t: Table, work: &mut [u8], trace: &mut [u8]) -> SearchAnswer
     if trace.len() < k {
         return SearchAnswer::Refused(10);
     }
-    search_lent(t, work, trace, k, true)
+    search_sized(t, work, trace, k, 0)
 }
 
 // The search of a table.

@@ -3,7 +3,8 @@ ghost use mathlib.Core.Path.{_≡_};
 ghost use mathlib.Core.List.{_++_};
 ghost use Prim.Native.Nat.{_+_, _*_, _<_, _≤_};
 ghost use lib.ListN.{length, drop};
-ghost use Rattle.search.specs.Slot.{four, fourAt, stateAt, parentAt, maskAt, linkAt, linkedBytes, unlinked, Cleared};
+ghost use lib.Seq.{sets};
+ghost use Rattle.search.specs.Slot.{four, fourAt, stateAt, parentAt, maskAt, linkAt, stateBytes, linkedBytes, unlinked, Cleared};
 use tasks::State;
 
 // The byte as a number that an index or a sum can hold.
@@ -70,10 +71,10 @@ pub(crate) fn link_of(work: &[u8], i: usize) -> usize
     wide(work[at + 21]) + 256 * wide(work[at + 22]) + 65536 * wide(work[at + 23])
 }
 
-// Writes a slot, with its link, at the front of the part that is lent.
-pub(crate) fn put(part: &mut [u8], s: State, parent: u32, mask: u8, link: u32)
-    requires { ⌜ 24 ≤ length (now part) ⌝ }
-    ensures { λ _. ⌜ now (part .exit) ≡ linkedBytes s parent mask link ++ drop 24 (now (part .entry)) ⌝ }
+// Writes the sixteen bytes of a state at the front of the part that is lent.
+pub(crate) fn put_state(part: &mut [u8], s: State)
+    requires { ⌜ 16 ≤ length (now part) ⌝ }
+    ensures { λ _. ⌜ now (part .exit) ≡ sets (now (part .entry)) 0 (stateBytes s) ⌝ }
 {
     let mut k: usize = 0;
     while k < 8 {
@@ -81,6 +82,14 @@ pub(crate) fn put(part: &mut [u8], s: State, parent: u32, mask: u8, link: u32)
         part[2 * k + 1] = s.p[k];
         k += 1;
     }
+}
+
+// Writes a slot, with its link, at the front of the part that is lent.
+pub(crate) fn put(part: &mut [u8], s: State, parent: u32, mask: u8, link: u32)
+    requires { ⌜ 24 ≤ length (now part) ⌝ }
+    ensures { λ _. ⌜ now (part .exit) ≡ linkedBytes s parent mask link ++ drop 24 (now (part .entry)) ⌝ }
+{
+    put_state(part, s);
     part[16] = (parent % 256) as u8;
     part[17] = (parent / 256 % 256) as u8;
     part[18] = (parent / 65536 % 256) as u8;

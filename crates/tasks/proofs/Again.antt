@@ -1,22 +1,18 @@
 -- The round trips of the two calls: what the writer leaves of an accepted sheet's table, and what the reader finds in a valid
 -- table's sheet. Assumes nothing.
 use Prim.Native.Nat.{ℕ, _+_, _≤_, _<_}
-use mathlib.Core.Path.{_≡_, refl, sym, ap, _∙_}
+use mathlib.Core.Path.{_≡_, sym, ap, _∙_}
 use mathlib.Core.List.{List, _++_}
-use mathlib.Core.Bool.{Bool, true, false}
 use native.Mathlib.Omega.{arith}
 use lib.Dec.{ltb}
-use lib.ListN.{length, getD, take, drop, length-append}
-use lib.Seq.{sets, length-sets, take-at}
-use borrow.Author.Tests.{lt-ltb, le-ltb, ltb-true, ltb-false}
-use Rattle.tasks.specs.Lists.{pick}
+use lib.ListN.{length, getD, take, drop}
+use lib.Seq.{take-at}
+use borrow.Author.Tests.{lt-ltb, ltb-true, ltb-false}
 use Rattle.tasks.specs.Table.{tableFault}
-use Rattle.tasks.specs.Sheet.{refusedWith, acceptedAs, sheetOf, sheetBytes, writeAnswer, writeOut, copyAnswer, copyOut, tableAgain, ifRead, outIfRead}
+use Rattle.tasks.specs.Sheet.{refusedWith, acceptedAs, sheetOf, sheetBytes, writeAnswer, writeOut, copyAnswer, copyOut, tableAgain}
 use Rattle.tasks.specs.declared.table.Table.{Table}
-use Rattle.tasks.specs.declared.sheet.Sheet.{Sheet}
 use Rattle.tasks.specs.declared.sheet.Reading.{Reading}
 use Rattle.tasks.specs.declared.sheet.Reading.the-variants as Reading
-use Rattle.tasks.specs.declared.writer.Writing.{Writing}
 use Rattle.tasks.specs.declared.writer.Writing.the-variants.{Written, Refused}
 use Rattle.tasks.proofs.Bools.{by-bool}
 use Rattle.tasks.proofs.Sheets.{write-fault, write-short, write-done, write-out, sheet-short}

@@ -4,15 +4,13 @@
 use Prim.Native.Nat.{ℕ, zero, suc, _+_, _-_, _*_, _/_, _%_, _^_, _≤_, _<_}
 use mathlib.Core.Path.{_≡_, refl, sym, ap, ap₂, _∙_}
 use mathlib.Core.List.{List, [], _∷_, _++_}
-use mathlib.Core.Bool.{Bool, true, false}
 use native.Mathlib.Omega.{arith}
 use native.Mathlib.Numerals.{add-one}
 use native.Mathlib.Nat.{div-lt-iff-lt-mul, pow-suc}
 use lib.Dec.{ltb}
 use lib.ListN.{length, getD, drop}
-use lib.Seq.{drop-cons, drop-drop, getD-drop}
+use lib.Seq.{drop-cons}
 use borrow.Author.Tests.{lt-ltb, le-ltb, ltb-true, ltb-false}
-use Rattle.tasks.specs.Lists.{pick}
 use Rattle.tasks.specs.Number.{value, groupsIn, groups, Canonical, bytesOf, numberBytes, above, numberIn, numberAt}
 use Rattle.tasks.specs.Number.Canonical.{alone, before}
 use Rattle.tasks.specs.declared.number.Number.{Number}

@@ -2,8 +2,7 @@
 -- Assumes nothing.
 use Prim.Native.Nat.{ℕ, zero, suc, _+_, _-_, _≤_, _<_}
 use mathlib.Core.Path.{_≡_, refl, sym, ap, ap₂, _∙_}
-use mathlib.Core.List.{List, [], _∷_, _++_, append-assoc}
-use mathlib.Core.Bool.{Bool, true, false}
+use mathlib.Core.List.{List, _++_, append-assoc}
 use native.Mathlib.Omega.{arith}
 use native.Mathlib.Decide.{ℕ-discrete}
 use lib.Dec.{ltb}
@@ -18,14 +17,13 @@ use Rattle.tasks.specs.declared.number.Number.{Number}
 use Rattle.tasks.specs.declared.number.Number.the-variants.{Value, Refused}
 use Rattle.tasks.specs.declared.table.Table.{Table}
 use Rattle.tasks.specs.declared.sheet.Sheet.{Sheet}
-use Rattle.tasks.specs.declared.sheet.Reading.{Reading}
 use Rattle.tasks.specs.declared.sheet.Task.{Task}
 use Rattle.tasks.specs.declared.sheet.TaskRead.{TaskRead}
 use Rattle.tasks.specs.declared.sheet.TaskRead.the-variants as TaskRead
 use Rattle.tasks.proofs.Bools.{by-bool}
 use Rattle.tasks.proofs.Fill.{eight-at}
 use Rattle.tasks.proofs.Groups.{Stands, number-stands, number-read}
-use Rattle.tasks.proofs.Fields.{Field, field-read, field-passes}
+use Rattle.tasks.proofs.Fields.{field-read, field-passes}
 use Rattle.tasks.proofs.Tables.{FitTask, fit-task, task-fits, Valid, valid, not-refused}
 
 -- ---- what an accepted reading says

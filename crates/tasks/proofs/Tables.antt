@@ -1,6 +1,6 @@
 -- What a task's rule says, and what a valid table is. Assumes nothing.
 use Prim.Native.Nat.{ℕ, _≤_, _<_}
-use mathlib.Core.Path.{_≡_, refl, sym, ap, _∙_}
+use mathlib.Core.Path.{_≡_, refl}
 use mathlib.Core.Bool.{Bool, true, false, _||_}
 use native.Mathlib.Omega.{arith}
 use lib.Dec.{ltb}
@@ -9,7 +9,7 @@ use borrow.Author.Tests.{lt-ltb, le-ltb, ltb-true, ltb-false}
 use Rattle.tasks.specs.Lists.{pick, any}
 use Rattle.tasks.specs.Table.{outside, breaks, faultAt, tableFault}
 use Rattle.tasks.specs.declared.table.Table.{Table}
-use Rattle.tasks.proofs.Bools.{by-bool, clash, nor-left, nor-right}
+use Rattle.tasks.proofs.Bools.{by-bool, nor-left, nor-right}
 use Rattle.tasks.proofs.Counts.{any-false, none-any}
 
 -- 1 ≤ C ≤ D ≤ P ≤ 200

@@ -2,8 +2,8 @@
 -- m, n, then C, D, P for each task, and the end. A sheet is judged in reading order: each number 1, 2, then its own rule; 7
 -- after a task's three numbers; 8 for bytes after the last task.
 use Prim.Native.Nat.{ℕ, zero, suc, _+_}
-use mathlib.Core.List.{List, [], _∷_, _++_}
-use mathlib.Core.Bool.{Bool, true, false, _||_}
+use mathlib.Core.List.{List, [], _++_}
+use mathlib.Core.Bool.{_||_}
 use lib.ListN.{length, getD, set, drop}
 use lib.Dec.{ltb}
 use Rattle.tasks.specs.Lists.{eight, pick}

@@ -1,6 +1,6 @@
 -- The task table (document 01, "The task table" and "Refusals by cause").
 use Prim.Native.Nat.{ℕ}
-use mathlib.Core.Bool.{Bool, true, false, _||_}
+use mathlib.Core.Bool.{Bool, _||_}
 use lib.ListN.{getD}
 use lib.Dec.{ltb}
 use Rattle.tasks.specs.Lists.{pick, any}

@@ -3,9 +3,12 @@
 // tests/make_vectors.py makes the records and the lines expected, and says what each kind holds.
 mod number;
 mod sheet;
+mod slots;
+mod space;
 mod table;
 mod text;
 mod tick;
+mod verdicts;
 mod writer;
 
 // Prints the line of one record.
@@ -20,6 +23,8 @@ fn answer(kind: u8, body: &[u8]) {
         b'c' => tick::choose(body),
         b'k' => tick::tick(body),
         b'p' => tick::replay(body),
+        b'v' => verdicts::search(body),
+        b'q' => verdicts::call(body),
         _ => text::unknown(),
     }
 }

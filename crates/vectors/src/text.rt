@@ -1,6 +1,6 @@
 // What the lines are made of.
 ghost use mathlib.Core.Path.{_≡_};
-ghost use Prim.Native.Nat.{_<_};
+ghost use Prim.Native.Nat.{_<_, _≤_};
 use libc::STDOUT_FILENO;
 
 // A byte as a length.
@@ -10,6 +10,13 @@ pub fn wide(x: u8) -> usize
     x as usize
 }
 
+// 1 where something holds, and 0 where it does not.
+pub fn one(holds: bool) -> usize
+    ensures { λ r. ⌜ r ≤ 1 ⌝ }
+{
+    if holds { 1 } else { 0 }
+}
+
 // Writes some text.
 pub fn put(text: &[u8]) {
     io::write_all(STDOUT_FILENO, text);
@@ -17,8 +24,13 @@ pub fn put(text: &[u8]) {
 
 // Writes a space and a number.
 pub fn number(x: usize) {
+    long(x as u64);
+}
+
+// Writes a space and a number of 64 bits.
+pub fn long(x: u64) {
     put(b" ");
-    io::print_decimal(STDOUT_FILENO, x as u64);
+    io::print_decimal(STDOUT_FILENO, x);
 }
 
 // Writes a space and a byte as a number.
@@ -86,4 +98,19 @@ pub fn rest(body: &[u8], at: usize) -> &[u8] {
         return &body[at..];
     }
     &body[..0]
+}
+
+// The first bytes of a body, and all of it where it has fewer.
+pub fn first(body: &[u8], count: usize) -> &[u8] {
+    if count < body.len() {
+        return &body[..count];
+    }
+    body
+}
+
+// The number in the first four bytes of a body, low byte first.
+pub fn four(body: &[u8]) -> usize {
+    let low = wide(byte(body, 0)) + 256 * wide(byte(body, 1));
+    let high = wide(byte(body, 2)) + 256 * wide(byte(body, 3));
+    low + 65536 * high
 }

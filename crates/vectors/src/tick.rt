@@ -24,7 +24,7 @@ fn every_second(b: &[u8]) -> [u8; 8] {
 }
 
 // The state at the front of a body.
-fn of_body(b: &[u8]) -> State {
+pub fn of_body(b: &[u8]) -> State {
     let c = every_second(b);
     let p = every_second(text::rest(b, 1));
     State { c: c, p: p }
@@ -101,12 +101,8 @@ fn outcome(o: Outcome) {
     }
 }
 
-// Kind p, a table and masks: the answer of the replay, and its state.
-pub fn replay(body: &[u8]) {
-    let t = table::of_body(body);
-    let replayed = tasks::replay(t, text::rest(body, table::LENGTH));
-    text::put(b"replay");
-    let answer = replayed.answer;
+// Prints the answer of a replay.
+pub fn print_replay(answer: ReplayAnswer) {
     match answer {
         ReplayAnswer::Played(o) => outcome(o),
         ReplayAnswer::Refused(r, tick) => {
@@ -114,6 +110,15 @@ pub fn replay(body: &[u8]) {
             text::number(tick);
         }
     }
+}
+
+// Kind p, a table and masks: the answer of the replay, and its state.
+pub fn replay(body: &[u8]) {
+    let t = table::of_body(body);
+    let replayed = tasks::replay(t, text::rest(body, table::LENGTH));
+    text::put(b"replay");
+    let answer = replayed.answer;
+    print_replay(answer);
     print(replayed.state);
     text::end();
 }

@@ -1,24 +1,15 @@
 // Sheets that are written, and those that are read and written again.
+use crate::space;
 use crate::table;
 use crate::text;
 use tasks::Reading;
 use tasks::Table;
 use tasks::Writing;
 
-// Fills an output with bytes that a writer has to leave: 11, and 37 more at each place, modulo 256.
-fn fill(out: &mut [u8]) {
-    let mut x: u8 = 11;
-    let mut i: usize = 0;
-    while i < out.len() {
-        out[i] = x;
-        x = std::num::wrapping_add_u8(x, 37);
-        i += 1;
-    }
-}
-
-// Writes a table into an output, and prints the answer and the whole output.
+// Writes a table into an output of bytes that the writer has to leave, and prints the answer and the
+// whole output.
 fn write_into(t: Table, out: &mut [u8]) {
-    fill(out);
+    space::fill(out, 11, 37);
     let written = tasks::write_sheet(t, out);
     match written {
         Writing::Written(length) => text::number(length),

@@ -1,3 +1,4 @@
+-- The invariant of the slots: no mask misses from those passed; of the masks: none of those passed misses. Assumes nothing.
 use mathlib.Core.Path.{sym, _∙_}
 use Prim.Native.Nat.{_-_, _≤_, _<_}
 use mathlib.Core.Logic.{⊎-elim}

@@ -1,3 +1,4 @@
+-- The sum of four products fits, and the bucket is below the number of buckets. Assumes nothing.
 use Prim.Native.Nat.{_+_, _-_, _/_, _%_}
 use mathlib.Core.Path.{refl}
 use lib.Bits.{and-le-r}
@@ -6,8 +7,6 @@ use native.Mathlib.Omega.{arith}
 use borrow.Author.Needs.{needs}
 use Rattle.search.proofs.index.bucket.Statement.{statement}
 use Rattle.search.proofs.index.bucket.Tie as tie
-use Rattle.search.proofs.index.bucket.Reads as reads
-use Rattle.search.proofs.index.bucket.Lts as lts
 
 cast-x : tie.Need-cast-x
 cast-x c = search needs

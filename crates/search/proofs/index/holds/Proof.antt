@@ -1,7 +1,7 @@
 -- The invariant: a walk along the chain for the key stands at cur.
 use Prim.Native.Nat.{_-_}
-use mathlib.Core.Path.{_≡_, refl, sym, _∙_}
-use lib.ListN.{length, getD}
+use mathlib.Core.Path.{_≡_, sym, _∙_}
+use lib.ListN.{length}
 use Rattle.levels.specs.Index.{Walk}
 use Rattle.levels.proofs.Index.{walk-start, walk-next, walk-falls, walk-end}
 use Rattle.search.specs.Slot.{keyAt, bucketFor}
@@ -11,12 +11,6 @@ use native.Mathlib.Omega.{arith}
 use borrow.Author.Needs.{needs}
 use Rattle.search.proofs.index.holds.Statement.{statement}
 use Rattle.search.proofs.index.holds.Tie as tie
-use Rattle.search.proofs.index.holds.Reads as reads
-use Rattle.search.proofs.index.holds.Lts as lts
-use Rattle.search.proofs.index.bucket.Reads as bucket-reads
-use Rattle.search.proofs.index.key_of.Reads as key-of-reads
-use Rattle.search.proofs.index.same_at.Reads as same-at-reads
-use Rattle.search.proofs.slots.link_of.Reads as link-of-reads
 
 abbrev Inv-loop : tie.InvT-loop
 Inv-loop work heads n key b cur₀ cur = Walk (bucketFor (length heads)) (keyAt work) n key cur

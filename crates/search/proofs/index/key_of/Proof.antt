@@ -1,11 +1,8 @@
+-- By what the words are. Assumes nothing.
 use Rattle.search.specs.Slot.{keyOf}
-use native.Mathlib.Omega.{arith}
 use borrow.Author.Needs.{needs}
 use Rattle.search.proofs.index.key_of.Statement.{statement}
 use Rattle.search.proofs.index.key_of.Tie as tie
-use Rattle.search.proofs.index.key_of.Reads as reads
-use Rattle.search.proofs.index.key_of.Lts as lts
-use Rattle.search.proofs.index.word_of.Reads as word-of-reads
 
 word-of-requires : tie.Need-word-of-requires
 word-of-requires c κs = search needs

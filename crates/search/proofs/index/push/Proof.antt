@@ -1,7 +1,6 @@
-use Prim.Native.Nat.{_+_, _*_}
-use mathlib.Core.Path.{_≡_, sym, ap, _∙_}
-use lib.ListN.{getD, set}
-use Rattle.search.specs.Slot.{bucketFor, bucketOf, Pushed}
+-- The slot is written with the old head as its link, and the head is then the slot. Assumes nothing.
+use mathlib.Core.Path.{ap, _∙_}
+use Rattle.search.specs.Slot.{bucketFor, bucketOf}
 use Rattle.search.proofs.SlotLaws.{placed}
 use Rattle.search.proofs.KeyLaws.{Bytes}
 use Rattle.search.proofs.IndexLaws.{pushed}
@@ -9,11 +8,6 @@ use native.Mathlib.Omega.{arith}
 use borrow.Author.Needs.{needs}
 use Rattle.search.proofs.index.push.Statement.{statement}
 use Rattle.search.proofs.index.push.Tie as tie
-use Rattle.search.proofs.index.push.Reads as reads
-use Rattle.search.proofs.index.push.Lts as lts
-use Rattle.search.proofs.index.bucket.Reads as bucket-reads
-use Rattle.search.proofs.index.key_of.Reads as key-of-reads
-use Rattle.search.proofs.slots.put.Reads as put-reads
 
 key-of-requires : tie.Need-key-of-requires
 key-of-requires c κs = search needs

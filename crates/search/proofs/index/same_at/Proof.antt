@@ -1,11 +1,8 @@
+-- By what the four numbers of the slot are. Assumes nothing.
 use Rattle.search.specs.Slot.{keyAt, sameKeys}
-use native.Mathlib.Omega.{arith}
 use borrow.Author.Needs.{needs}
 use Rattle.search.proofs.index.same_at.Statement.{statement}
 use Rattle.search.proofs.index.same_at.Tie as tie
-use Rattle.search.proofs.index.same_at.Reads as reads
-use Rattle.search.proofs.index.same_at.Lts as lts
-use Rattle.search.proofs.slots.four_at.Reads as four-at-reads
 
 mul-at : tie.Need-mul-at
 mul-at c = search needs

@@ -1,11 +1,8 @@
+-- By computation. Assumes nothing.
 use Rattle.search.specs.Slot.{wordOf}
-use native.Mathlib.Omega.{arith}
 use borrow.Author.Needs.{needs}
 use Rattle.search.proofs.index.word_of.Statement.{statement}
 use Rattle.search.proofs.index.word_of.Tie as tie
-use Rattle.search.proofs.index.word_of.Reads as reads
-use Rattle.search.proofs.index.word_of.Lts as lts
-use Rattle.search.proofs.slots.joined.Reads as joined-reads
 
 mul-joined : tie.Need-mul-joined
 mul-joined c = search needs

@@ -1,3 +1,4 @@
+-- The next legal mask, or 256 after the last. Assumes nothing.
 use mathlib.Core.Path.{sym, _∙_}
 use borrow.Author.Needs.{needs}
 use Rattle.search.proofs.MaskLaws.{follows-end, follows-on}

@@ -1,3 +1,4 @@
+-- The sum of the weights of the releasable tasks. Assumes nothing.
 use native.Mathlib.Omega.{arith}
 use Rattle.search.specs.Masks.{byteOf, freeMask}
 use borrow.Author.Needs.{needs}

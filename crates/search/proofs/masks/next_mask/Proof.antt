@@ -1,3 +1,4 @@
+-- The next submask in increasing order. Assumes nothing.
 use mathlib.Core.Path.{ap}
 use native.Mathlib.Omega.{arith}
 use lib.Bits.{bitAnd}

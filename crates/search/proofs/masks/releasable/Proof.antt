@@ -1,3 +1,4 @@
+-- By computation. Assumes nothing.
 use mathlib.Core.Path.{refl}
 use Rattle.search.specs.Masks.{releasable}
 use borrow.Author.Needs.{needs}

@@ -1,3 +1,4 @@
+-- The bit of a releasable task, or 0. Assumes nothing.
 use native.Mathlib.Omega.{arith}
 use mathlib.Core.Path.{refl, sym, _∙_}
 use Rattle.tasks.proofs.Picks.{pick-yes, pick-no}

@@ -1,3 +1,4 @@
+-- The invariant: the books of a level; each exit is an event of the search that gives its verdict. Assumes nothing.
 use mathlib.Core.Path.{_≡_, refl, ap, _∙_}
 use Prim.Native.Nat.{_-_}
 use lib.ListN.{length}
@@ -32,8 +33,7 @@ loop-holds c =
 hunt-requires : tie.Need-hunt-requires Inv-loop μ-loop
 hunt-requires c κs =
     let stands = c .before .loop .inv .2 in
-    let order = stands .standing .explored .order in
-    (omega arith, stands-level (c .before .before .before .before .before .before .before .before .before .before .before .before .before .pre) stands)
+    (stands .standing .explored .order, stands-level (c .before .before .before .before .before .before .before .before .before .before .before .before .before .pre) stands)
 
 enum-known-found : tie.Need-enum-known-found Inv-loop μ-loop
 enum-known-found c = search needs

@@ -1,3 +1,5 @@
+-- Each figure fits its own bits. Assumes nothing.
+use Prim.Native.Nat.{_-_}
 use Rattle.search.specs.Claim.{packed}
 use native.Mathlib.Omega.{arith}
 use borrow.Author.Needs.{needs}

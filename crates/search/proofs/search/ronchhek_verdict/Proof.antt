@@ -1,3 +1,5 @@
+-- The figures of the search of the sheet, packed. Assumes nothing.
+use Prim.Native.Nat.{_-_}
 use Rattle.search.specs.Claim.{figures}
 use Rattle.search.proofs.ClaimLaws.{search-low}
 use borrow.Author.Needs.{needs}

@@ -1,7 +1,9 @@
+-- The sheet is refused, or its table, which is valid, is searched. Assumes nothing.
 use Rattle.tasks.specs.Sheet.{sheetOf}
 use Rattle.tasks.specs.declared.sheet.Reading.the-variants.{Refused}
 use Rattle.search.proofs.SheetLaws.{sheet-refusal, read-accepted}
 use mathlib.Core.Path.{_≡_, sym, ap, _∙_}
+use Prim.Native.Nat.{_-_}
 use Rattle.tasks.proofs.RoundTrip.{read-valid}
 use Rattle.search.proofs.ClaimLaws.{sheet-fault, sheet-read, refused-search}
 use native.Mathlib.Omega.{arith}

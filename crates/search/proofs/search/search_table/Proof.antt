@@ -1,3 +1,5 @@
+-- The table is refused, or it is valid and is searched. Assumes nothing.
+use Prim.Native.Nat.{_-_}
 use Rattle.search.proofs.ClaimLaws.{table-fault, table-valid, refused-search}
 use borrow.Author.Needs.{needs}
 use Rattle.search.proofs.search.search_table.Statement.{statement}

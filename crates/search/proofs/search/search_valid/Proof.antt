@@ -1,5 +1,6 @@
-use mathlib.Core.Path.{sym, _∙_}
+-- K is 0, the trace is too short, or the spaces will do. Assumes nothing.
 use Rattle.search.proofs.ClaimLaws.{slots-is, refusal-nine, refusal-ten, refusal-zero, refused-search, found-search}
+use mathlib.Core.Path.{sym, _∙_}
 use native.Mathlib.Omega.{arith}
 use borrow.Author.Needs.{needs}
 use Rattle.search.proofs.search.search_valid.Statement.{statement}
@@ -22,8 +23,8 @@ returns-2 c =
     let is = slots-is (a .work .now) (a .trace .now) (k .ensures) in
     refused-search (refusal-ten (a .work .now) (a .trace .now) (λ e. c .before .if1 .left (is ∙ e)) (rw is at (c .if2 .taken))) (omega arith)
 
-search-lent-requires : tie.Need-search-lent-requires
-search-lent-requires c κs =
+search-sized-requires : tie.Need-search-sized-requires
+search-sized-requires c κs =
     let k = c .before .before .before .before .slots-in in
     let a = c .before .before .before .before .before .before .before .args in
     let ne = c .before .before .before .if1 .left in
@@ -45,7 +46,7 @@ returns-3 c =
     let k = c .before .before .before .before .before .before .before .before .before .slots-in in
     let a = c .before .before .before .before .before .before .before .before .before .before .before .before .args in
     let is = slots-is (a .work .now) (a .trace .now) (k .ensures) in
-    found-search (refusal-zero (a .work .now) (a .trace .now) (λ e. c .before .before .before .before .before .before .before .before .if1 .left (is ∙ e)) (rw is at (c .before .before .before .before .before .before .before .if2 .left))) (c .before .before .before .before .search-lent .ensures)
+    found-search (refusal-zero (a .work .now) (a .trace .now) (λ e. c .before .before .before .before .before .before .before .before .if1 .left (is ∙ e)) (rw is at (c .before .before .before .before .before .before .before .if2 .left))) (c .before .before .before .before .search-sized .ensures)
 
 pub search-valid-spec : {M : Type 1} → statement M
 search-valid-spec =
@@ -54,7 +55,7 @@ search-valid-spec =
     slots-in-requires
     returns
     returns-2
-    search-lent-requires
+    search-sized-requires
     same-length
     same-length-2
     returns-3)

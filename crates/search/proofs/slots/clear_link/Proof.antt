@@ -1,11 +1,10 @@
+-- By computation. Assumes nothing.
 use lib.ListN.{length-set}
 use Rattle.search.specs.Slot.{unlinked}
 use native.Mathlib.Omega.{arith}
 use borrow.Author.Needs.{needs}
 use Rattle.search.proofs.slots.clear_link.Statement.{statement}
 use Rattle.search.proofs.slots.clear_link.Tie as tie
-use Rattle.search.proofs.slots.clear_link.Reads as reads
-use Rattle.search.proofs.slots.clear_link.Lts as lts
 
 mul-at : tie.Need-mul-at
 mul-at c = search needs

@@ -7,9 +7,6 @@ use native.Mathlib.Omega.{arith}
 use borrow.Author.Needs.{needs}
 use Rattle.search.proofs.slots.clear_links.Statement.{statement}
 use Rattle.search.proofs.slots.clear_links.Tie as tie
-use Rattle.search.proofs.slots.clear_links.Reads as reads
-use Rattle.search.proofs.slots.clear_links.Lts as lts
-use Rattle.search.proofs.slots.clear_link.Reads as clear-link-reads
 
 abbrev Inv-loop : tie.InvT-loop
 Inv-loop work₀ n i₀ work i = (i ≤ n) × (length work ≡ length work₀) × Clearing work₀ work i

@@ -1,11 +1,8 @@
+-- By what the four bytes are. Assumes nothing.
 use Rattle.search.specs.Slot.{fourAt}
-use native.Mathlib.Omega.{arith}
 use borrow.Author.Needs.{needs}
 use Rattle.search.proofs.slots.four_at.Statement.{statement}
 use Rattle.search.proofs.slots.four_at.Tie as tie
-use Rattle.search.proofs.slots.four_at.Reads as reads
-use Rattle.search.proofs.slots.four_at.Lts as lts
-use Rattle.search.proofs.slots.joined.Reads as joined-reads
 
 shared-slice-read-joined : tie.Need-shared-slice-read-joined
 shared-slice-read-joined c = search needs

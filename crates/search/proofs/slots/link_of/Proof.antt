@@ -1,11 +1,8 @@
+-- By what the three bytes are. Assumes nothing.
 use Rattle.search.specs.Slot.{linkAt}
-use native.Mathlib.Omega.{arith}
 use borrow.Author.Needs.{needs}
 use Rattle.search.proofs.slots.link_of.Statement.{statement}
 use Rattle.search.proofs.slots.link_of.Tie as tie
-use Rattle.search.proofs.slots.link_of.Reads as reads
-use Rattle.search.proofs.slots.link_of.Lts as lts
-use Rattle.search.proofs.slots.wide.Reads as wide-reads
 
 mul-at : tie.Need-mul-at
 mul-at c = search needs

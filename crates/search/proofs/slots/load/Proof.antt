@@ -8,8 +8,6 @@ use native.Mathlib.Omega.{arith}
 use borrow.Author.Needs.{needs}
 use Rattle.search.proofs.slots.load.Statement.{statement}
 use Rattle.search.proofs.slots.load.Tie as tie
-use Rattle.search.proofs.slots.load.Reads as reads
-use Rattle.search.proofs.slots.load.Lts as lts
 
 abbrev Inv-loop : tie.InvT-loop
 Inv-loop work i at c₀ p₀ k₀ c p k =

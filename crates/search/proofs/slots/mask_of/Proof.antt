@@ -1,10 +1,8 @@
+-- By computation. Assumes nothing.
 use Rattle.search.specs.Slot.{maskAt}
-use native.Mathlib.Omega.{arith}
 use borrow.Author.Needs.{needs}
 use Rattle.search.proofs.slots.mask_of.Statement.{statement}
 use Rattle.search.proofs.slots.mask_of.Tie as tie
-use Rattle.search.proofs.slots.mask_of.Reads as reads
-use Rattle.search.proofs.slots.mask_of.Lts as lts
 
 mul-result : tie.Need-mul-result
 mul-result c = search needs

@@ -1,11 +1,8 @@
+-- By what the four bytes are. Assumes nothing.
 use Rattle.search.specs.Slot.{parentAt}
-use native.Mathlib.Omega.{arith}
 use borrow.Author.Needs.{needs}
 use Rattle.search.proofs.slots.parent_of.Statement.{statement}
 use Rattle.search.proofs.slots.parent_of.Tie as tie
-use Rattle.search.proofs.slots.parent_of.Reads as reads
-use Rattle.search.proofs.slots.parent_of.Lts as lts
-use Rattle.search.proofs.slots.four_at.Reads as four-at-reads
 
 mul-four-at : tie.Need-mul-four-at
 mul-four-at c = search needs

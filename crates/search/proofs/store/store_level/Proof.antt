@@ -1,3 +1,4 @@
+-- The invariant: the successors of the slots passed are stored. Assumes nothing.
 use mathlib.Core.Path.{_≡_, refl, _∙_}
 use Prim.Native.Nat.{_-_, _≤_}
 use lib.ListN.{length}

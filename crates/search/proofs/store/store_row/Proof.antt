@@ -1,3 +1,4 @@
+-- The invariant: the successors under the masks passed are stored. Assumes nothing.
 use mathlib.Core.Path.{_≡_, refl, _∙_}
 use Prim.Native.Nat.{_-_, _≤_}
 use mathlib.Core.Logic.{⊎-elim}

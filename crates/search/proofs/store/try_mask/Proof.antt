@@ -1,3 +1,4 @@
+-- The successor is known, or is pushed as a new slot, or there is no slot left for it. Assumes nothing.
 use mathlib.Core.Path.{refl}
 use native.Mathlib.Omega.{arith}
 use borrow.Author.Needs.{needs}

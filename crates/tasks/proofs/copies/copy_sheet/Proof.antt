@@ -1,15 +1,12 @@
+-- A refused sheet, or the table of an accepted one, whose sheet is the same bytes. Assumes nothing.
 use Rattle.tasks.proofs.Again.{copy-refused, copy-accepted}
 use Rattle.tasks.specs.declared.sheet.Sheet.{Sheet}
 use Rattle.tasks.specs.Sheet.{writeAnswer, writeOut}
-use mathlib.Core.Path.{_≡_, refl, sym, ap, _∙_}
+use mathlib.Core.Path.{sym, ap, _∙_}
 use native.Mathlib.Omega.{arith}
 use borrow.Author.Needs.{needs}
 use Rattle.tasks.proofs.copies.copy_sheet.Statement.{statement}
 use Rattle.tasks.proofs.copies.copy_sheet.Tie as tie
-use Rattle.tasks.proofs.copies.copy_sheet.Reads as reads
-use Rattle.tasks.proofs.copies.copy_sheet.Lts as lts
-use Rattle.tasks.proofs.sheet.read_sheet.Reads as read-sheet-reads
-use Rattle.tasks.proofs.writer.write_sheet.Reads as write-sheet-reads
 
 read-sheet-requires : tie.Need-read-sheet-requires
 read-sheet-requires c κs = search needs

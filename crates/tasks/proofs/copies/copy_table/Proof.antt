@@ -1,18 +1,14 @@
+-- 52 bytes are room for every sheet, and what was written is read as the table. Assumes nothing.
 use Rattle.tasks.specs.Sheet.{sheetOf}
 use lib.Seq.{length-take-le}
 use Prim.Native.Nat.{_≤_}
 use lib.ListN.{length, take}
 use Rattle.tasks.proofs.Again.{again-refused, again-written}
-use mathlib.Core.Path.{_≡_, refl, sym, ap, _∙_}
+use mathlib.Core.Path.{_≡_, sym, ap, _∙_}
 use native.Mathlib.Omega.{arith}
 use borrow.Author.Needs.{needs}
 use Rattle.tasks.proofs.copies.copy_table.Statement.{statement}
 use Rattle.tasks.proofs.copies.copy_table.Tie as tie
-use Rattle.tasks.proofs.copies.copy_table.Reads as reads
-use Rattle.tasks.proofs.copies.copy_table.Lts as lts
-use Rattle.tasks.proofs.sheet.read_sheet.Reads as read-sheet-reads
-use Rattle.tasks.proofs.sheet.refused.Reads as refused-reads
-use Rattle.tasks.proofs.writer.write_sheet.Reads as write-sheet-reads
 
 slice-aggregate-write-sheet : tie.Need-slice-aggregate-write-sheet
 slice-aggregate-write-sheet c = search needs

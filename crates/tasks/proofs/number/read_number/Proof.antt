@@ -1,13 +1,12 @@
 -- Each exit of the reader is a case of `numberAt`, by the tests that led there. Assumes nothing.
 use Prim.Native.Nat.{ℕ, _+_, _-_, _*_, _≤_, _<_}
-use mathlib.Core.Path.{_≡_, refl, sym, ap, _∙_}
+use mathlib.Core.Path.{_≡_}
 use mathlib.Core.List.{List}
 use native.Mathlib.Omega.{arith}
 use lib.ListN.{length, getD}
 use borrow.Author.Tests.{lt-ltb, le-ltb}
 use borrow.Author.Needs.{needs}
 use Rattle.tasks.specs.Number.{numberIn, numberAt}
-use Rattle.tasks.specs.declared.number.Number.{Number}
 use Rattle.tasks.specs.declared.number.Number.the-variants.{Value, Refused}
 use Rattle.tasks.proofs.number.read_number.Statement.{statement}
 use Rattle.tasks.proofs.number.read_number.Tie as tie

@@ -1,15 +1,11 @@
+-- The count is refused, or the tasks are read with a count of at most 8. Assumes nothing.
 use Rattle.tasks.proofs.Fields.{field-read}
 use Rattle.tasks.specs.Sheet.{fromCount}
-use mathlib.Core.Path.{_≡_, refl, sym, ap, _∙_}
+use mathlib.Core.Path.{sym, _∙_}
 use native.Mathlib.Omega.{arith}
 use borrow.Author.Needs.{needs}
 use Rattle.tasks.proofs.sheet.read_count.Statement.{statement}
 use Rattle.tasks.proofs.sheet.read_count.Tie as tie
-use Rattle.tasks.proofs.sheet.read_count.Reads as reads
-use Rattle.tasks.proofs.sheet.read_count.Lts as lts
-use Rattle.tasks.proofs.sheet.read_field.Reads as read-field-reads
-use Rattle.tasks.proofs.sheet.read_tasks.Reads as read-tasks-reads
-use Rattle.tasks.proofs.sheet.refused.Reads as refused-reads
 
 read-field-requires : tie.Need-read-field-requires
 read-field-requires c κs = search needs

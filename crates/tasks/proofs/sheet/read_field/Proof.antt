@@ -1,12 +1,9 @@
+-- The number is refused, breaks its rule, or passes it. Assumes nothing.
 use Rattle.tasks.specs.Sheet.{fieldAt}
-use mathlib.Core.Path.{_≡_, refl, sym, ap, _∙_}
-use native.Mathlib.Omega.{arith}
+use mathlib.Core.Path.{sym, _∙_}
 use borrow.Author.Needs.{needs}
 use Rattle.tasks.proofs.sheet.read_field.Statement.{statement}
 use Rattle.tasks.proofs.sheet.read_field.Tie as tie
-use Rattle.tasks.proofs.sheet.read_field.Reads as reads
-use Rattle.tasks.proofs.sheet.read_field.Lts as lts
-use Rattle.tasks.proofs.number.read_number.Reads as read-number-reads
 
 read-number-requires : tie.Need-read-number-requires
 read-number-requires c κs = search needs

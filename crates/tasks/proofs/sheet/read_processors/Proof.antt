@@ -1,15 +1,11 @@
+-- The number of processors is refused, or the count is read next. Assumes nothing.
 use Rattle.tasks.proofs.Fields.{field-read}
 use Rattle.tasks.specs.Sheet.{fromProcessors}
-use mathlib.Core.Path.{_≡_, refl, sym, ap, _∙_}
+use mathlib.Core.Path.{sym, _∙_}
 use native.Mathlib.Omega.{arith}
 use borrow.Author.Needs.{needs}
 use Rattle.tasks.proofs.sheet.read_processors.Statement.{statement}
 use Rattle.tasks.proofs.sheet.read_processors.Tie as tie
-use Rattle.tasks.proofs.sheet.read_processors.Reads as reads
-use Rattle.tasks.proofs.sheet.read_processors.Lts as lts
-use Rattle.tasks.proofs.sheet.read_count.Reads as read-count-reads
-use Rattle.tasks.proofs.sheet.read_field.Reads as read-field-reads
-use Rattle.tasks.proofs.sheet.refused.Reads as refused-reads
 
 read-field-requires : tie.Need-read-field-requires
 read-field-requires c κs = search needs

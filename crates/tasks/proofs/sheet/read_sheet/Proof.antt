@@ -1,14 +1,9 @@
+-- The field count is refused, or the policy is read next. Assumes nothing.
 use Rattle.tasks.specs.Sheet.{sheetOf}
-use mathlib.Core.Path.{_≡_, refl, sym, ap, _∙_}
-use native.Mathlib.Omega.{arith}
+use mathlib.Core.Path.{sym, _∙_}
 use borrow.Author.Needs.{needs}
 use Rattle.tasks.proofs.sheet.read_sheet.Statement.{statement}
 use Rattle.tasks.proofs.sheet.read_sheet.Tie as tie
-use Rattle.tasks.proofs.sheet.read_sheet.Reads as reads
-use Rattle.tasks.proofs.sheet.read_sheet.Lts as lts
-use Rattle.tasks.proofs.sheet.read_field.Reads as read-field-reads
-use Rattle.tasks.proofs.sheet.read_policy.Reads as read-policy-reads
-use Rattle.tasks.proofs.sheet.refused.Reads as refused-reads
 
 read-field-requires : tie.Need-read-field-requires
 read-field-requires c κs = search needs

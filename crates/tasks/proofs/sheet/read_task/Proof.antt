@@ -1,13 +1,9 @@
+-- Three numbers, one after the other; the first that is refused ends the task. Assumes nothing.
 use Rattle.tasks.specs.Sheet.{taskAt}
-use mathlib.Core.Path.{_≡_, refl, sym, ap, _∙_}
-use native.Mathlib.Omega.{arith}
+use mathlib.Core.Path.{sym, _∙_}
 use borrow.Author.Needs.{needs}
 use Rattle.tasks.proofs.sheet.read_task.Statement.{statement}
 use Rattle.tasks.proofs.sheet.read_task.Tie as tie
-use Rattle.tasks.proofs.sheet.read_task.Reads as reads
-use Rattle.tasks.proofs.sheet.read_task.Lts as lts
-use Rattle.tasks.proofs.number.read_number.Reads as read-number-reads
-use Rattle.tasks.proofs.sheet.task_of.Reads as task-of-reads
 
 read-number-requires : tie.Need-read-number-requires
 read-number-requires c κs = search needs

@@ -1,3 +1,4 @@
+-- The invariant: what is left to read, with the table so far, gives what the whole gives. Assumes nothing.
 use mathlib.Core.List.{List}
 use lib.Dec.{ltb}
 use borrow.Author.Tests.{lt-ltb, le-ltb}
@@ -7,18 +8,12 @@ use Rattle.tasks.specs.declared.sheet.Task.{Task}
 use Rattle.tasks.specs.declared.sheet.TaskRead.the-variants as TaskRead
 use Rattle.tasks.specs.Sheet.{taskAt, withTask, afterTask, tasksFrom, fromTasks, refusedWith, acceptedAs}
 use lib.ListN.{length}
-use mathlib.Core.Path.{_≡_, refl, sym, ap, _∙_}
-use Prim.Native.Nat.{ℕ, zero, suc, _+_, _-_, _≤_, _<_}
+use mathlib.Core.Path.{_≡_, sym, ap, _∙_}
+use Prim.Native.Nat.{ℕ, suc, _+_, _-_, _≤_, _<_}
 use native.Mathlib.Omega.{arith}
 use borrow.Author.Needs.{needs}
 use Rattle.tasks.proofs.sheet.read_tasks.Statement.{statement}
 use Rattle.tasks.proofs.sheet.read_tasks.Tie as tie
-use Rattle.tasks.proofs.sheet.read_tasks.Reads as reads
-use Rattle.tasks.proofs.sheet.read_tasks.Lts as lts
-use Rattle.tasks.proofs.sheet.empty_table.Reads as empty-table-reads
-use Rattle.tasks.proofs.sheet.read_task.Reads as read-task-reads
-use Rattle.tasks.proofs.sheet.refused.Reads as refused-reads
-use Rattle.tasks.proofs.sheet.with_task.Reads as with-task-reads
 
 abbrev Inv-loop : tie.InvT-loop
 Inv-loop s from policy m n count t₀ at₀ i₀ t at i =

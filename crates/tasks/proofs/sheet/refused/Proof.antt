@@ -1,10 +1,7 @@
-use native.Mathlib.Omega.{arith}
+-- By what the empty table is. Assumes nothing.
 use borrow.Author.Needs.{needs}
 use Rattle.tasks.proofs.sheet.refused.Statement.{statement}
 use Rattle.tasks.proofs.sheet.refused.Tie as tie
-use Rattle.tasks.proofs.sheet.refused.Reads as reads
-use Rattle.tasks.proofs.sheet.refused.Lts as lts
-use Rattle.tasks.proofs.sheet.empty_table.Reads as empty-table-reads
 
 empty-table-requires : tie.Need-empty-table-requires
 empty-table-requires c κs = search needs

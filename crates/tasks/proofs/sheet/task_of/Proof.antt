@@ -1,13 +1,11 @@
+-- A task that keeps the rule has numbers of one byte. Assumes nothing.
 use Rattle.tasks.proofs.Tables.{fit-task}
 use Rattle.tasks.specs.Sheet.{taskOf}
-use mathlib.Core.Path.{_≡_, refl, sym, ap, _∙_}
+use mathlib.Core.Path.{sym, _∙_}
 use native.Mathlib.Omega.{arith}
 use borrow.Author.Needs.{needs}
 use Rattle.tasks.proofs.sheet.task_of.Statement.{statement}
 use Rattle.tasks.proofs.sheet.task_of.Tie as tie
-use Rattle.tasks.proofs.sheet.task_of.Reads as reads
-use Rattle.tasks.proofs.sheet.task_of.Lts as lts
-use Rattle.tasks.proofs.table.breaks.Reads as breaks-reads
 
 breaks-requires : tie.Need-breaks-requires
 breaks-requires c κs = search needs

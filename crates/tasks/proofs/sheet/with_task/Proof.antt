@@ -1,10 +1,8 @@
+-- By computation. Assumes nothing.
 use Rattle.tasks.specs.Sheet.{withTask}
-use native.Mathlib.Omega.{arith}
 use borrow.Author.Needs.{needs}
 use Rattle.tasks.proofs.sheet.with_task.Statement.{statement}
 use Rattle.tasks.proofs.sheet.with_task.Tie as tie
-use Rattle.tasks.proofs.sheet.with_task.Reads as reads
-use Rattle.tasks.proofs.sheet.with_task.Lts as lts
 
 element-write-next : tie.Need-element-write-next
 element-write-next c = search needs

@@ -1,10 +1,8 @@
+-- By computation. Assumes nothing.
 use Rattle.tasks.specs.Table.{breaks}
-use native.Mathlib.Omega.{arith}
 use borrow.Author.Needs.{needs}
 use Rattle.tasks.proofs.table.breaks.Statement.{statement}
 use Rattle.tasks.proofs.table.breaks.Tie as tie
-use Rattle.tasks.proofs.table.breaks.Reads as reads
-use Rattle.tasks.proofs.table.breaks.Lts as lts
 
 returns : tie.Need-returns
 unfolding breaks

@@ -1,3 +1,4 @@
+-- Four numbers and the tasks, each stored where the one before ended. Assumes nothing.
 use Rattle.tasks.specs.declared.table.Table.{Table}
 use mathlib.Core.List.{List}
 use Prim.Native.Nat.{ℕ}
@@ -6,14 +7,9 @@ use Rattle.tasks.proofs.Stores.{storing-start, storing-step, storing-ro
 use Rattle.tasks.specs.Sheet.{tasksBytes, sheetBytes}
 use Rattle.tasks.specs.Number.{numberBytes}
 use mathlib.Core.List.{_++_}
-use native.Mathlib.Omega.{arith}
 use borrow.Author.Needs.{needs}
 use Rattle.tasks.proofs.writer.put_sheet.Statement.{statement}
 use Rattle.tasks.proofs.writer.put_sheet.Tie as tie
-use Rattle.tasks.proofs.writer.put_sheet.Reads as reads
-use Rattle.tasks.proofs.writer.put_sheet.Lts as lts
-use Rattle.tasks.proofs.number.put_number.Reads as put-number-reads
-use Rattle.tasks.proofs.writer.put_tasks.Reads as put-tasks-reads
 
 -- the sheet from each number on
 abbrev tasksOn : Table → List ℕ

@@ -1,15 +1,13 @@
+-- Three numbers, each stored where the one before ended. Assumes nothing.
 use Rattle.tasks.proofs.Stores.{storing-start, storing-step, storing-room, storing-left, storing-last}
 use Rattle.tasks.specs.Number.{numberBytes}
-use lib.ListN.{getD, length}
+use lib.ListN.{getD}
 use mathlib.Core.List.{_++_}
 use Rattle.tasks.specs.Sheet.{taskBytes}
 use native.Mathlib.Omega.{arith}
 use borrow.Author.Needs.{needs}
 use Rattle.tasks.proofs.writer.put_task.Statement.{statement}
 use Rattle.tasks.proofs.writer.put_task.Tie as tie
-use Rattle.tasks.proofs.writer.put_task.Reads as reads
-use Rattle.tasks.proofs.writer.put_task.Lts as lts
-use Rattle.tasks.proofs.number.put_number.Reads as put-number-reads
 
 element-copy-out-put-number : tie.Need-element-copy-out-put-number
 element-copy-out-put-number c = search needs

@@ -1,16 +1,14 @@
+-- The invariant: what is left to store, stored from the present place, is the whole. Assumes nothing.
 use Rattle.tasks.proofs.Stores.{Storing, storing-start, storing-step, storing-room, storing-end}
 use Rattle.tasks.proofs.Sheets.{tasks-bytes, tasks-none}
 use Rattle.tasks.specs.Sheet.{taskBytes, tasksBytes}
 use mathlib.Core.List.{_++_}
-use mathlib.Core.Path.{_≡_, refl, sym, ap, _∙_}
-use Prim.Native.Nat.{ℕ, suc, _+_, _-_, _≤_, _<_}
+use mathlib.Core.Path.{_≡_}
+use Prim.Native.Nat.{_+_, _-_, _≤_}
 use native.Mathlib.Omega.{arith}
 use borrow.Author.Needs.{needs}
 use Rattle.tasks.proofs.writer.put_tasks.Statement.{statement}
 use Rattle.tasks.proofs.writer.put_tasks.Tie as tie
-use Rattle.tasks.proofs.writer.put_tasks.Reads as reads
-use Rattle.tasks.proofs.writer.put_tasks.Lts as lts
-use Rattle.tasks.proofs.writer.put_task.Reads as put-task-reads
 
 abbrev Inv-loop : tie.InvT-loop
 Inv-loop out₀ from t n at₀ i₀ out at i =

@@ -1,13 +1,10 @@
+-- The lengths of the parts add up. Assumes nothing.
 use Rattle.tasks.specs.Sheet.{sheetBytes}
-use lib.ListN.{length, length-append}
+use lib.ListN.{length-append}
 use native.Mathlib.Omega.{arith}
 use borrow.Author.Needs.{needs}
 use Rattle.tasks.proofs.writer.sheet_len.Statement.{statement}
 use Rattle.tasks.proofs.writer.sheet_len.Tie as tie
-use Rattle.tasks.proofs.writer.sheet_len.Reads as reads
-use Rattle.tasks.proofs.writer.sheet_len.Lts as lts
-use Rattle.tasks.proofs.number.number_len.Reads as number-len-reads
-use Rattle.tasks.proofs.writer.tasks_len.Reads as tasks-len-reads
 
 number-len-requires : tie.Need-number-len-requires
 number-len-requires c κs = search needs

@@ -1,12 +1,10 @@
+-- The lengths of the three numbers add up. Assumes nothing.
 use Rattle.tasks.specs.Sheet.{taskBytes}
-use lib.ListN.{length, length-append}
+use lib.ListN.{length-append}
 use native.Mathlib.Omega.{arith}
 use borrow.Author.Needs.{needs}
 use Rattle.tasks.proofs.writer.task_len.Statement.{statement}
 use Rattle.tasks.proofs.writer.task_len.Tie as tie
-use Rattle.tasks.proofs.writer.task_len.Reads as reads
-use Rattle.tasks.proofs.writer.task_len.Lts as lts
-use Rattle.tasks.proofs.number.number_len.Reads as number-len-reads
 
 element-copy-out-number-len : tie.Need-element-copy-out-number-len
 element-copy-out-number-len c = search needs

@@ -1,15 +1,13 @@
+-- The invariant: the total so far and the length of the tasks that are left make the whole length. Assumes nothing.
 use Rattle.tasks.proofs.Sheets.{tasks-length, tasks-no-length}
-use Rattle.tasks.specs.Sheet.{taskBytes, tasksBytes}
+use Rattle.tasks.specs.Sheet.{tasksBytes}
 use lib.ListN.{length}
-use mathlib.Core.Path.{_≡_, refl, sym, ap, _∙_}
-use Prim.Native.Nat.{ℕ, suc, _+_, _-_, _*_, _≤_, _<_}
+use mathlib.Core.Path.{_≡_, ap, _∙_}
+use Prim.Native.Nat.{_+_, _-_, _*_, _≤_}
 use native.Mathlib.Omega.{arith}
 use borrow.Author.Needs.{needs}
 use Rattle.tasks.proofs.writer.tasks_len.Statement.{statement}
 use Rattle.tasks.proofs.writer.tasks_len.Tie as tie
-use Rattle.tasks.proofs.writer.tasks_len.Reads as reads
-use Rattle.tasks.proofs.writer.tasks_len.Lts as lts
-use Rattle.tasks.proofs.writer.task_len.Reads as task-len-reads
 
 abbrev Inv-loop : tie.InvT-loop
 Inv-loop t n total₀ i₀ total i =

@@ -1,16 +1,12 @@
+-- The three ways in which a writing ends. Assumes nothing.
 use Rattle.tasks.proofs.Sheets.{write-fault, write-short, write-done}
 use Rattle.tasks.proofs.Tables.{valid}
 use Prim.Native.Nat.{ℕ, _≤_}
-use mathlib.Core.Path.{_≡_, refl, sym, ap, _∙_}
+use mathlib.Core.Path.{_≡_, _∙_}
 use native.Mathlib.Omega.{arith}
 use borrow.Author.Needs.{needs}
 use Rattle.tasks.proofs.writer.write_sheet.Statement.{statement}
 use Rattle.tasks.proofs.writer.write_sheet.Tie as tie
-use Rattle.tasks.proofs.writer.write_sheet.Reads as reads
-use Rattle.tasks.proofs.writer.write_sheet.Lts as lts
-use Rattle.tasks.proofs.table.Table.fault.Reads as fault-reads
-use Rattle.tasks.proofs.writer.put_sheet.Reads as put-sheet-reads
-use Rattle.tasks.proofs.writer.sheet_len.Reads as sheet-len-reads
 
 -- a number that is not above 0 is 0
 none-left : {x y : ℕ} → x ≡ y → x ≤ 0 → y ≡ 0

@@ -1,3 +1,4 @@
+-- The invariant: whether one of the first i entries is at fault. Assumes nothing.
 use native.Mathlib.Omega.{arith}
 use Prim.Native.Nat.{_≤_, _-_}
 use mathlib.Core.Path.{_≡_}
@@ -7,9 +8,6 @@ use Rattle.tasks.proofs.Turns.{any-none, any-turn, any-end}
 use borrow.Author.Needs.{needs}
 use Rattle.tasks.proofs.table.Table.any_fault.Statement.{statement}
 use Rattle.tasks.proofs.table.Table.any_fault.Tie as tie
-use Rattle.tasks.proofs.table.Table.any_fault.Reads as reads
-use Rattle.tasks.proofs.table.Table.any_fault.Lts as lts
-use Rattle.tasks.proofs.table.Table.fault_at.Reads as fault-at-reads
 
 abbrev Inv-loop : tie.InvT-loop
 Inv-loop self found₀ i₀ found i = (i ≤ 8) × (found ≡ any i (faultAt self))

@@ -1,4 +1,4 @@
-use native.Mathlib.Omega.{arith}
+-- The first test that holds picks the refusal. Assumes nothing.
 use Rattle.tasks.proofs.Picks.{pick-yes, pick-no}
 use mathlib.Core.Path.{sym, _∙_, refl}
 use borrow.Author.Tests.{lt-ltb, le-ltb}
@@ -6,10 +6,6 @@ use Rattle.tasks.specs.Table.{tableFault}
 use borrow.Author.Needs.{needs}
 use Rattle.tasks.proofs.table.Table.fault.Statement.{statement}
 use Rattle.tasks.proofs.table.Table.fault.Tie as tie
-use Rattle.tasks.proofs.table.Table.fault.Reads as reads
-use Rattle.tasks.proofs.table.Table.fault.Lts as lts
-use Rattle.tasks.proofs.table.Table.any_fault.Reads as any-fault-reads
-use Rattle.tasks.proofs.table.outside.Reads as outside-reads
 
 returns : tie.Need-returns
 unfolding tableFault

@@ -1,14 +1,9 @@
+-- By cases on whether the entry is one of the first n. Assumes nothing.
 use Rattle.tasks.specs.Table.{faultAt}
-use mathlib.Core.Path.{_≡_, refl, sym, ap, _∙_}
 use borrow.Author.Tests.{lt-ltb, le-ltb}
-use native.Mathlib.Omega.{arith}
 use borrow.Author.Needs.{needs}
 use Rattle.tasks.proofs.table.Table.fault_at.Statement.{statement}
 use Rattle.tasks.proofs.table.Table.fault_at.Tie as tie
-use Rattle.tasks.proofs.table.Table.fault_at.Reads as reads
-use Rattle.tasks.proofs.table.Table.fault_at.Lts as lts
-use Rattle.tasks.proofs.number.wide.Reads as wide-reads
-use Rattle.tasks.proofs.table.breaks.Reads as breaks-reads
 
 element-copy-out-wide : tie.Need-element-copy-out-wide
 element-copy-out-wide c = search needs

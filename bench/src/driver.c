@@ -1,0 +1,136 @@
+/* Times the engines on one sheet: driver ROUNDS HEX. Each engine is lent the same work and trace space of 1,000,000 slots, touched
+   before; in each round every engine is called until a fixed share of time has passed, and the processor time of a call is
+   printed in nanoseconds. Every answer, slot and trace is checked first; a disagreement ends the program. */
+#include "engine.h"
+
+#include <stdio.h>
+#include <stdlib.h>
+#include <string.h>
+#include <time.h>
+
+enum { WORK = SLOT * MOST_SLOTS, FILL = 0xA5, SHARE = 20000000 };
+
+static const struct { const char *name; Verdict *call; } engines[] = {
+#ifdef LIBRARY
+    {"library", ronchhek_verdict},
+#endif
+    {"plain", plain_verdict},
+    {"simd", simd_verdict},
+    {"best", best_verdict},
+};
+enum { ENGINES = sizeof engines / sizeof engines[0] };
+
+static uint8_t *work, *trace;
+
+static double now(void)
+{
+    struct timespec t;
+    clock_gettime(CLOCK_PROCESS_CPUTIME_ID, &t);
+    return 1e9 * (double)t.tv_sec + (double)t.tv_nsec;
+}
+
+static void fail(const char *engine, const char *what)
+{
+    fprintf(stderr, "%s: %s\n", engine, what);
+    exit(1);
+}
+
+static uint64_t word(const uint8_t *at)
+{
+    uint64_t w;
+    memcpy(&w, at, 8);
+    return w;
+}
+
+/* The same for two spaces that hold the same states in any order. */
+static uint64_t digest(size_t n)
+{
+    uint64_t sum = 0;
+    for (size_t i = 0; i < n; i++) {
+        uint64_t h = (word(work + SLOT * i) ^ 0x9E3779B97F4A7C15u) * 0xD6E8FEB86659FD93u;
+        h = (h ^ h >> 32 ^ word(work + SLOT * i + 8)) * 0xC2B2AE3D27D4EB4Fu;
+        sum += h ^ h >> 29;
+    }
+    return sum;
+}
+
+static void check(const char *name, const Table *t, uint64_t answer)
+{
+    size_t kind = answer >> 48, length = answer >> 24 & 0xFFFFFF, n = answer & 0xFFFFFF;
+    static const uint8_t start[24];
+    if (kind == 0) fail(name, "refused");
+    if (n == 0 || n > MOST_SLOTS || length > MOST_SLOTS) fail(name, "count out of range");
+    if (memcmp(work, start, SLOT) != 0) fail(name, "slot 0 is not the start");
+    for (size_t i = 1; i < n; i++) {
+        const uint8_t *at = work + SLOT * i;
+        size_t parent = word(at + 16) & 0xFFFFFFFF;
+        uint8_t to[16];
+        if (parent >= i || at[21] || at[22] || at[23]) fail(name, "slot not formed");
+        if (step(t, work + SLOT * parent, at[20], to) != 0 || memcmp(to, at, 16) != 0) fail(name, "slot rule broken");
+    }
+    for (size_t i = SLOT * n; i < WORK; i++)
+        if (work[i] != FILL) fail(name, "later work bytes changed");
+    uint8_t s[24] = {0}, to[16];
+    for (size_t i = 0; i < length; i++) {
+        if (step(t, s, trace[i], to) != (i + 1 == length)) fail(name, "trace does not replay");
+        memcpy(s, to, 16);
+    }
+    for (size_t i = length; i < MOST_SLOTS; i++)
+        if (trace[i] != FILL) fail(name, "later trace bytes changed");
+}
+
+int main(int argc, char **argv)
+{
+    if (argc != 3) fail("driver", "give the number of rounds and the sheet in hexadecimal");
+    int rounds = atoi(argv[1]);
+    uint8_t sheet[64];
+    size_t len = strlen(argv[2]) / 2;
+    if (len > sizeof sheet) fail("driver", "sheet too long");
+    for (size_t i = 0; i < len; i++) {
+        unsigned v;
+        if (sscanf(argv[2] + 2 * i, "%2x", &v) != 1) fail("driver", "sheet not hexadecimal");
+        sheet[i] = (uint8_t)v;
+    }
+    Table t;
+    if (read_sheet(sheet, len, &t)) fail("driver", "sheet refused");
+    work = malloc(WORK);
+    trace = malloc(MOST_SLOTS);
+    if (!work || !trace) fail("driver", "no memory");
+
+    memset(work, FILL, WORK);
+    memset(trace, FILL, MOST_SLOTS);
+    uint64_t answer = counted_verdict(sheet, len, work, WORK, trace, MOST_SLOTS);
+    uint64_t states = digest(answer & 0xFFFFFF), free_choice = answer >> 48 == 3;
+    check("counted", &t, answer);
+
+    double once[ENGINES];
+    for (int e = 0; e < ENGINES; e++) {
+        memset(work, FILL, WORK);
+        memset(trace, FILL, MOST_SLOTS);
+        uint64_t mine = engines[e].call(sheet, len, work, WORK, trace, MOST_SLOTS);
+        if (mine != answer) fail(engines[e].name, "another answer than the others");
+        check(engines[e].name, &t, mine);
+        if (!free_choice && digest(mine & 0xFFFFFF) != states) fail(engines[e].name, "other states than the others");
+        double from = now();
+        engines[e].call(sheet, len, work, WORK, trace, MOST_SLOTS);
+        once[e] = now() - from;
+    }
+
+    printf("{\"kind\":%d,\"length\":%d,\"count\":%d,\"hunt\":%llu,\"store\":%llu,\"rounds\":[", (int)(answer >> 48),
+           (int)(answer >> 24 & 0xFFFFFF), (int)(answer & 0xFFFFFF), (unsigned long long)hunt_ticks,
+           (unsigned long long)store_ticks);
+    for (int r = 0; r < rounds; r++) {
+        printf("%s{", r ? "," : "");
+        for (int k = 0; k < ENGINES; k++) {
+            int e = (k + r) % ENGINES;
+            int calls = once[e] >= SHARE ? 1 : (int)(SHARE / once[e]) + 1;
+            double from = now();
+            for (int i = 0; i < calls; i++)
+                if (engines[e].call(sheet, len, work, WORK, trace, MOST_SLOTS) != answer) fail(engines[e].name, "changed answer");
+            printf("%s\"%s\":%.0f", k ? "," : "", engines[e].name, (now() - from) / calls);
+        }
+        printf("}");
+    }
+    printf("]}\n");
+    return 0;
+}

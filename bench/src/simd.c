@@ -1,0 +1,194 @@
+/* A native search with each tick in vector instructions (eight lanes of 16 bits), an open-addressing table of slot numbers beside
+   the slots, and successors looked up some places behind the tick that made them, so that their table lines are there by then. */
+#include "engine.h"
+
+#include <immintrin.h>
+#include <stdbool.h>
+#include <string.h>
+
+enum { BEHIND = 16, FEWEST = 1 << 12, MOST = 1 << 21 };
+
+typedef struct {
+    __m128i work, gap, shift; /* shift is D - P */
+    __m128i lane;             /* the task numbers */
+    __m128i limit;            /* m */
+    __m128i early, keeps;     /* all ones where the deadline orders, where a started job stays */
+    uint8_t tasks;
+} Vectors;
+
+static _Alignas(64) uint32_t index_space[MOST];
+static _Alignas(16) uint16_t lanes_of[256][8];
+
+static Vectors vectors_of(const Table *t)
+{
+    _Alignas(16) int16_t work[8], gap[8], shift[8], lane[8];
+    for (int i = 0; i < 8; i++) {
+        work[i] = t->work[i];
+        gap[i] = t->gap[i];
+        shift[i] = (int16_t)(t->deadline[i] - t->gap[i]);
+        lane[i] = (int16_t)i;
+    }
+    Vectors v;
+    v.work = _mm_load_si128((const __m128i *)work);
+    v.gap = _mm_load_si128((const __m128i *)gap);
+    v.shift = _mm_load_si128((const __m128i *)shift);
+    v.lane = _mm_load_si128((const __m128i *)lane);
+    v.limit = _mm_set1_epi16(t->m);
+    v.early = _mm_set1_epi16(t->policy >= 2 ? -1 : 0);
+    v.keeps = _mm_set1_epi16(t->policy % 2 == 0 ? -1 : 0);
+    v.tasks = (uint8_t)((1u << t->n) - 1);
+    return v;
+}
+
+/* c and p of a state after a tick, in 16-bit lanes. */
+typedef struct { __m128i c, p; } Pair;
+
+static inline Pair tick(__m128i c, __m128i p, const Vectors *v, unsigned mask)
+{
+    const __m128i zero = _mm_setzero_si128();
+    __m128i out = _mm_load_si128((const __m128i *)lanes_of[mask]);
+    c = _mm_or_si128(c, _mm_and_si128(out, v->work));
+    p = _mm_or_si128(p, _mm_and_si128(out, v->gap));
+    __m128i ready = _mm_cmpgt_epi16(c, zero);
+    __m128i started = _mm_and_si128(v->keeps, _mm_and_si128(ready, _mm_cmpgt_epi16(v->work, c)));
+    /* A place for each task: -1 where it keeps its core, else time left times 8 plus number, or the last place where not ready. */
+    __m128i place = _mm_add_epi16(_mm_and_si128(v->early, _mm_slli_epi16(_mm_add_epi16(p, v->shift), 3)), v->lane);
+    place = _mm_blendv_epi8(_mm_set1_epi16(0x7FFF), place, ready);
+    place = _mm_or_si128(place, started);
+    __m256i wide = _mm256_broadcastsi128_si256(place), rank = _mm256_setzero_si256();
+#define TWO(j)                                                                                                    \
+    rank = _mm256_sub_epi16(rank, _mm256_cmpgt_epi16(wide, _mm256_shuffle_epi8(wide, _mm256_set_m128i(             \
+               _mm_set1_epi16((2 * (j) + 3) << 8 | (2 * (j) + 2)), _mm_set1_epi16((2 * (j) + 1) << 8 | 2 * (j))))))
+    TWO(0);
+    TWO(2);
+    TWO(4);
+    TWO(6);
+#undef TWO
+    __m128i ranks = _mm_add_epi16(_mm256_castsi256_si128(rank), _mm256_extracti128_si256(rank, 1));
+    __m128i run = _mm_and_si128(ready, _mm_cmpgt_epi16(v->limit, ranks));
+    Pair after = {_mm_add_epi16(c, run), _mm_subs_epu16(p, _mm_set1_epi16(1))};
+    return after;
+}
+
+static inline bool missed(Pair s, const Vectors *v)
+{
+    __m128i late = _mm_and_si128(_mm_cmpgt_epi16(s.c, _mm_setzero_si128()),
+                                 _mm_cmpgt_epi16(s.c, _mm_add_epi16(s.p, v->shift)));
+    return _mm_movemask_epi8(late) != 0;
+}
+
+static inline __m128i joined(Pair s) { return _mm_or_si128(s.c, _mm_slli_epi16(s.p, 8)); }
+
+static inline unsigned releasable(__m128i p, const Vectors *v)
+{
+    __m128i none = _mm_cmpeq_epi16(p, _mm_setzero_si128());
+    return (unsigned)_mm_movemask_epi8(_mm_packs_epi16(none, none)) & v->tasks;
+}
+
+static inline uint32_t mixed(__m128i s)
+{
+    uint64_t low = (uint64_t)_mm_cvtsi128_si64(s), high = (uint64_t)_mm_extract_epi64(s, 1);
+    uint64_t h = (low ^ high * 0x9E3779B97F4A7C15u) * 0xD6E8FEB86659FD93u;
+    return (uint32_t)(h >> 32);
+}
+
+static inline __m128i slot_state(const uint8_t *work, size_t slot)
+{
+    return _mm_loadu_si128((const __m128i *)(work + SLOT * slot));
+}
+
+static inline void put(uint8_t *at, __m128i s, uint32_t parent, unsigned mask)
+{
+    uint64_t rest = parent | (uint64_t)mask << 32;
+    _mm_storeu_si128((__m128i *)at, s);
+    memcpy(at + 16, &rest, 8);
+}
+
+static size_t grown(const uint8_t *work, size_t size, size_t n)
+{
+    size *= 4;
+    if (size > MOST) size = MOST;
+    memset(index_space, 0, size * sizeof *index_space);
+    for (size_t i = 0; i < n; i++) {
+        size_t at = mixed(slot_state(work, i)) & (size - 1);
+        while (index_space[at]) at = (at + 1) & (size - 1);
+        index_space[at] = (uint32_t)i + 1;
+    }
+    return size;
+}
+
+uint64_t simd_verdict(const uint8_t *sheet, size_t sheet_len, uint8_t *work, size_t work_len, uint8_t *trace,
+                      size_t trace_len)
+{
+    Table t;
+    int refusal = read_sheet(sheet, sheet_len, &t);
+    if (refusal) return packed(0, 0, (uint64_t)refusal);
+    size_t slots = work_len / SLOT < MOST_SLOTS ? work_len / SLOT : MOST_SLOTS;
+    if (slots == 0) return packed(0, 0, 9);
+    if (trace_len < slots) return packed(0, 0, 10);
+    for (int m = 0; m < 256; m++)
+        for (int i = 0; i < 8; i++) lanes_of[m][i] = m >> i & 1 ? 0xFFFF : 0;
+
+    const Vectors v = vectors_of(&t);
+    const __m128i low = _mm_set1_epi16(0xFF);
+    struct { __m128i state; uint32_t hash, parent, mask; } ring[BEHIND];
+    size_t size = FEWEST / 4;
+    put(work, _mm_setzero_si128(), 0, 0);
+    size = grown(work, size, 1);
+    size_t n = 1;
+    for (size_t first = 0, level = 0;; level++) {
+        size_t last = n;
+        for (size_t i = first; i < last; i++) {
+            __m128i s = slot_state(work, i), c = _mm_and_si128(s, low), p = _mm_srli_epi16(s, 8);
+            unsigned free = releasable(p, &v);
+            if (!missed(tick(c, p, &v, free), &v)) continue;
+            for (unsigned mask = 0;; mask = (mask - free) & free)
+                if (missed(tick(c, p, &v, mask), &v)) {
+                    write_trace(work, trace, level + 1, i, (uint8_t)mask);
+                    return packed(2, level + 1, n);
+                }
+        }
+        size_t made = 0, done = 0, i = first;
+        bool more = i < last;
+        __m128i s = slot_state(work, i), c = _mm_and_si128(s, low), p = _mm_srli_epi16(s, 8);
+        unsigned free = releasable(p, &v), mask = 0;
+        while (more || done < made) {
+            if (more) {
+                __m128i after = joined(tick(c, p, &v, mask));
+                uint32_t hash = mixed(after);
+                _mm_prefetch((const char *)&index_space[hash & (size - 1)], _MM_HINT_T0);
+                size_t at = made++ % BEHIND;
+                ring[at].state = after;
+                ring[at].hash = hash;
+                ring[at].parent = (uint32_t)i;
+                ring[at].mask = mask;
+                mask = (mask - free) & free;
+                if (mask == 0) {
+                    more = ++i < last;
+                    s = slot_state(work, more ? i : 0);
+                    c = _mm_and_si128(s, low);
+                    p = _mm_srli_epi16(s, 8);
+                    free = releasable(p, &v);
+                }
+                if (made - done < BEHIND && more) continue;
+            }
+            size_t from = done++ % BEHIND;
+            __m128i seek = ring[from].state;
+            size_t at = ring[from].hash & (size - 1);
+            for (;; at = (at + 1) & (size - 1)) {
+                uint32_t entry = index_space[at];
+                if (entry == 0) {
+                    if (n == slots) return packed(3, 0, n);
+                    put(work + SLOT * n, seek, ring[from].parent, ring[from].mask);
+                    index_space[at] = (uint32_t)++n;
+                    if (2 * n > size && size < MOST) size = grown(work, size, n);
+                    break;
+                }
+                __m128i same = _mm_cmpeq_epi8(slot_state(work, entry - 1), seek);
+                if (_mm_movemask_epi8(same) == 0xFFFF) break;
+            }
+        }
+        if (n == last) return packed(1, 0, n);
+        first = last;
+    }
+}

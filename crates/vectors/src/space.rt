@@ -1,0 +1,31 @@
+// Lent spaces: what they are filled with beforehand, and what was changed of that.
+use crate::text;
+
+// Fills a space: its first byte as given, each next one a step more, modulo 256.
+pub fn fill(space: &mut [u8], first: u8, step: u8) {
+    let mut x = first;
+    let mut i: usize = 0;
+    while i < space.len() {
+        space[i] = x;
+        x = std::num::wrapping_add_u8(x, step);
+        i += 1;
+    }
+}
+
+// Whether the byte at a place is another than it was, and counts.
+fn counts(from: usize, at: usize, byte: u8, before: u8) -> bool {
+    from <= at && byte != before
+}
+
+// How many bytes from a place on are not what `fill` put there.
+pub fn changed(space: &[u8], from: usize, first: u8, step: u8) -> usize {
+    let mut count: usize = 0;
+    let mut x = first;
+    let mut i: usize = 0;
+    while i < space.len() {
+        count += text::one(counts(from, i, space[i], x));
+        x = std::num::wrapping_add_u8(x, step);
+        i += 1;
+    }
+    count
+}

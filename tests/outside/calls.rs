@@ -1,0 +1,55 @@
+//! The two calls of include/ronchhek.h, as safe functions, and their packed answers.
+
+use crate::model::{Replay, Verdict};
+
+extern "C" {
+    fn ronchhek_verdict(
+        sheet: *const u8,
+        sheet_len: usize,
+        work: *mut u8,
+        work_len: usize,
+        trace: *mut u8,
+        trace_len: usize,
+    ) -> u64;
+    fn ronchhek_replay(
+        sheet: *const u8,
+        sheet_len: usize,
+        list: *const u8,
+        list_len: usize,
+        state: *mut u8,
+        state_len: usize,
+    ) -> u64;
+}
+
+/// The call takes any bytes and any lengths, so there is nothing to test before it.
+pub fn verdict(sheet: &[u8], work: &mut [u8], trace: &mut [u8]) -> u64 {
+    let (w, t) = (work.len(), trace.len());
+    unsafe { ronchhek_verdict(sheet.as_ptr(), sheet.len(), work.as_mut_ptr(), w, trace.as_mut_ptr(), t) }
+}
+
+pub fn replay(sheet: &[u8], list: &[u8], state: &mut [u8]) -> u64 {
+    let n = state.len();
+    unsafe { ronchhek_replay(sheet.as_ptr(), sheet.len(), list.as_ptr(), list.len(), state.as_mut_ptr(), n) }
+}
+
+/// kind * 2^48 + L * 2^24 + N.
+pub fn packed_verdict(v: Result<Verdict, u8>) -> u64 {
+    let pack = |kind: u64, l: usize, n: usize| (kind << 48) + ((l as u64) << 24) + n as u64;
+    match v {
+        Ok(Verdict::Safe(n)) => pack(1, 0, n),
+        Ok(Verdict::Unsafe(l, n)) => pack(2, l, n),
+        Ok(Verdict::NoRoom(k)) => pack(3, 0, k),
+        Err(r) => pack(0, 0, r as usize),
+    }
+}
+
+/// kind * 2^56 + number * 2^48 + tick.
+pub fn packed_replay(r: Result<Replay, u8>) -> u64 {
+    let pack = |kind: u64, number: u8, tick: usize| (kind << 56) + ((number as u64) << 48) + tick as u64;
+    match r {
+        Ok(Replay::Kept(_)) => pack(1, 0, 0),
+        Ok(Replay::Missed(tick, _)) => pack(2, 0, tick),
+        Ok(Replay::Illegal(tick)) => pack(0, 11, tick),
+        Err(r) => pack(0, r, 0),
+    }
+}

@@ -1,0 +1,159 @@
+//! What a call may leave behind: its answer and every byte that it was lent, by document 01's rules.
+
+use crate::calls::{packed_replay, packed_verdict};
+use crate::model::{Levels, Model, Replay, State, Table, Tick, Verdict};
+use std::collections::HashSet;
+
+pub const SLOT: usize = 24;
+
+/// K of a work space.
+pub fn slots_of(work_len: usize) -> usize {
+    (work_len / SLOT).min(1_000_000)
+}
+
+/// The spaces of one call of ronchhek_verdict, before and after it, and its answer.
+pub struct Searched<'a> {
+    pub work_before: &'a [u8],
+    pub work_after: &'a [u8],
+    pub trace_before: &'a [u8],
+    pub trace_after: &'a [u8],
+    pub answer: u64,
+}
+
+/// The spaces of one call of ronchhek_replay.
+pub struct Replayed<'a> {
+    pub state_before: &'a [u8],
+    pub state_after: &'a [u8],
+    pub answer: u64,
+}
+
+fn same(what: &str, before: &[u8], after: &[u8]) -> Result<(), String> {
+    if before == after {
+        return Ok(());
+    }
+    let at = before.iter().zip(after).position(|(a, b)| a != b);
+    Err(format!("{what} changed, first at byte {at:?} of those that stay"))
+}
+
+/// The refusal of a search of this sheet with these spaces, if there is one.
+pub fn search_refusal(reading: &Result<Table, u8>, work_len: usize, trace_len: usize) -> Option<u8> {
+    let k = slots_of(work_len);
+    match reading {
+        Err(r) => Some(*r),
+        Ok(_) if k == 0 => Some(9),
+        Ok(_) if trace_len < k => Some(10),
+        Ok(_) => None,
+    }
+}
+
+/// A call that is to be refused: the number, and both spaces as they were.
+pub fn refused(number: u8, c: &Searched) -> Result<(), String> {
+    let expected = packed_verdict(Err(number));
+    if c.answer != expected {
+        return Err(format!("answer {:#x}, expected {expected:#x} (refusal {number})", c.answer));
+    }
+    same("work", c.work_before, c.work_after)?;
+    same("trace", c.trace_before, c.trace_after)
+}
+
+/// A call that is to be answered with this verdict. Without `levels` the answer alone is compared, and the
+/// written slots are judged by the slot rule.
+pub fn answered(m: &Model, t: &Table, v: Verdict, levels: Option<&Levels>, c: &Searched) -> Result<(), String> {
+    let expected = packed_verdict(Ok(v));
+    if c.answer != expected {
+        return Err(format!("answer {:#x}, expected {expected:#x} ({v:?})", c.answer));
+    }
+    let (count, masks) = match v {
+        Verdict::Safe(n) => (n, 0),
+        Verdict::Unsafe(l, n) => (n, l),
+        Verdict::NoRoom(k) => (k, 0),
+    };
+    if count * SLOT > c.work_after.len() || masks > c.trace_after.len() {
+        return Err(format!("{v:?} is more than the spaces hold"));
+    }
+    let states = written_slots(m, t, &c.work_after[..count * SLOT])?;
+    same("work after the slots", &c.work_before[count * SLOT..], &c.work_after[count * SLOT..])?;
+    same("trace after the masks", &c.trace_before[masks..], &c.trace_after[masks..])?;
+    if let Verdict::Unsafe(l, _) = v {
+        let list = &c.trace_after[..l];
+        match m.replay(t, list) {
+            Replay::Missed(tick, _) if tick == l => {}
+            other => return Err(format!("the trace {list:?} replays as {other:?}")),
+        }
+    }
+    // The states are `count` different ones. Under Safe and Unsafe that is as many as the right set has, so
+    // each being in the set makes them the set.
+    if let Some(levels) = levels {
+        let most = match v {
+            Verdict::Unsafe(l, _) => l - 1,
+            _ => usize::MAX,
+        };
+        if !matches!(v, Verdict::NoRoom(_)) {
+            for (i, s) in states.iter().enumerate() {
+                match levels.depth.get(s) {
+                    Some(&d) if d <= most => {}
+                    found => return Err(format!("slot {i} holds {s:?}, first reached at {found:?}")),
+                }
+            }
+            if levels.depth.len() != count {
+                return Err(format!("{count} states of {}", levels.depth.len()));
+            }
+        }
+    }
+    Ok(())
+}
+
+/// The slot rule: slot 0 is the start state with parent 0 and mask 0, any other slot's parent is an earlier slot
+/// whose tick under the mask gives its state; three zero bytes; no state twice.
+fn written_slots(m: &Model, t: &Table, work: &[u8]) -> Result<Vec<State>, String> {
+    let mut states: Vec<State> = Vec::with_capacity(work.len() / SLOT);
+    let mut seen = HashSet::with_capacity(work.len() / SLOT);
+    for (i, slot) in work.chunks(SLOT).enumerate() {
+        let s = State::from_bytes(&slot[..16]);
+        let parent = u32::from_le_bytes(slot[16..20].try_into().unwrap()) as usize;
+        let mask = slot[20];
+        if slot[21..] != [0, 0, 0] {
+            return Err(format!("slot {i} ends with {:?}", &slot[21..]));
+        }
+        if i == 0 {
+            if s != State::default() || parent != 0 || mask != 0 {
+                return Err(format!("slot 0 is {slot:?}"));
+            }
+        } else if parent >= i {
+            return Err(format!("slot {i} has parent {parent}"));
+        } else if m.tick(t, &states[parent], mask) != Tick::Next(s) {
+            return Err(format!("slot {i} holds {s:?}, not what slot {parent} gives under mask {mask}"));
+        }
+        if !seen.insert(s) {
+            return Err(format!("slot {i} holds {s:?} again"));
+        }
+        states.push(s);
+    }
+    Ok(states)
+}
+
+/// The outcome of a replay of this sheet, or its refusal.
+pub fn replay_outcome(m: &Model, reading: &Result<Table, u8>, list: &[u8], state_len: usize) -> Result<Replay, u8> {
+    match reading {
+        Err(r) => Err(*r),
+        Ok(_) if state_len < 16 || list.len() >= 1 << 48 => Err(12),
+        Ok(t) => Ok(m.replay(t, list)),
+    }
+}
+
+pub fn replayed(outcome: Result<Replay, u8>, c: &Replayed) -> Result<(), String> {
+    let expected = packed_replay(outcome);
+    if c.answer != expected {
+        return Err(format!("replay answers {:#x}, expected {expected:#x} ({outcome:?})", c.answer));
+    }
+    let written = match outcome {
+        Ok(Replay::Kept(s)) | Ok(Replay::Missed(_, s)) => {
+            if c.state_after[..16] != s.bytes() {
+                return Err(format!("state {:?}, expected {:?}", &c.state_after[..16], s.bytes()));
+            }
+            16
+        }
+        _ => 0,
+    };
+    same("state", &c.state_before[written..], &c.state_after[written..])
+}

@@ -1,0 +1,588 @@
+//! Differential test: the library's two calls against the independent implementation of model.rs.
+//!
+//!     differ [--seed S] [--sheets N] [--case I] [--fault 1..5] [--corpus DIR]
+//!
+//! Prints its seed, and at the end what was met. Ends with status 1 at the first difference.
+//! `--case I` runs that sheet of the seed alone. `--fault` seeds a mistake in the independent side.
+//! `--corpus` also takes the sheets of a folder, and compares the lines of its cases.txt.
+
+mod calls;
+mod check;
+mod gen;
+mod model;
+mod rng;
+
+use check::{Replayed, Searched, SLOT};
+use model::{End, Levels, Model, Replay, Table, Verdict};
+use rng::Rng;
+use std::collections::{BTreeMap, HashSet};
+
+/// More states than a search of a generated sheet is followed to.
+const LIMIT: usize = 1500;
+
+/// What a run met, by name.
+#[derive(Default)]
+struct Met(BTreeMap<String, usize>);
+
+impl Met {
+    fn add(&mut self, what: &str) {
+        match self.0.get_mut(what) {
+            Some(n) => *n += 1,
+            None => drop(self.0.insert(what.to_string(), 1)),
+        }
+    }
+
+    fn greatest(&mut self, what: &str, n: usize) {
+        let most = self.0.entry(what.to_string()).or_insert(0);
+        *most = n.max(*most);
+    }
+
+    fn of(&self, what: &str) -> usize {
+        *self.0.get(what).unwrap_or(&0)
+    }
+}
+
+/// A space that is lent: random bytes, with random bytes around it, at any alignment.
+struct Lent {
+    before: Vec<u8>,
+    bytes: Vec<u8>,
+    at: usize,
+    len: usize,
+}
+
+impl Lent {
+    fn new(r: &mut Rng, len: usize) -> Lent {
+        let at = r.range(32, 47);
+        let mut before = vec![0; at + len + 32];
+        r.fill(&mut before);
+        Lent { bytes: before.clone(), before, at, len }
+    }
+
+    fn space(&mut self) -> &mut [u8] {
+        &mut self.bytes[self.at..self.at + self.len]
+    }
+
+    fn was(&self) -> &[u8] {
+        &self.before[self.at..self.at + self.len]
+    }
+
+    fn is(&self) -> &[u8] {
+        &self.bytes[self.at..self.at + self.len]
+    }
+
+    fn around_stays(&self) -> Result<(), String> {
+        let end = self.at + self.len;
+        if self.before[..self.at] != self.bytes[..self.at] || self.before[end..] != self.bytes[end..] {
+            return Err("a byte outside a lent space changed".into());
+        }
+        Ok(())
+    }
+}
+
+struct Run {
+    m: Model,
+    met: Met,
+}
+
+/// A sheet, what it reads as, and its states.
+struct Subject {
+    sheet: Vec<u8>,
+    reading: Result<Table, u8>,
+    levels: Option<Levels>,
+}
+
+impl Run {
+    fn subject(&self, sheet: Vec<u8>, limit: usize) -> Subject {
+        let reading = self.m.read_sheet(&sheet);
+        let levels = reading.as_ref().ok().map(|t| self.m.levels(t, limit));
+        Subject { sheet, reading, levels }
+    }
+
+    fn judge(&self, s: &Subject, c: &Searched) -> Result<(), String> {
+        let (w, t) = (c.work_before.len(), c.trace_before.len());
+        if let Some(number) = check::search_refusal(&s.reading, w, t) {
+            return check::refused(number, c);
+        }
+        let levels = s.levels.as_ref().unwrap();
+        let v = levels.verdict(check::slots_of(w)).ok_or("a K that the levels do not decide")?;
+        check::answered(&self.m, s.reading.as_ref().unwrap(), v, Some(levels), c)
+    }
+
+    /// One call of the search, judged; then, now and then, one changed byte of its outcome, which must be found.
+    fn search(&mut self, r: &mut Rng, s: &Subject, work_len: usize, trace_len: usize) -> Result<Vec<u8>, String> {
+        let mut work = Lent::new(r, work_len);
+        let mut trace = Lent::new(r, trace_len);
+        let sheet = s.sheet.clone();
+        let answer = calls::verdict(&sheet, work.space(), trace.space());
+        let told = |e: String| format!("work of {work_len} bytes, trace of {trace_len}: {e}");
+        if sheet != s.sheet {
+            return Err(told("the sheet changed".into()));
+        }
+        work.around_stays().map_err(told)?;
+        trace.around_stays().map_err(told)?;
+        let call = |work: &Lent, trace: &Lent, answer: u64, run: &Run| {
+            run.judge(
+                s,
+                &Searched {
+                    work_before: work.was(),
+                    work_after: work.is(),
+                    trace_before: trace.was(),
+                    trace_after: trace.is(),
+                    answer,
+                },
+            )
+        };
+        call(&work, &trace, answer, self).map_err(told)?;
+        self.met.add("calls of the search");
+        self.met.add(&match answer >> 48 {
+            0 => format!("search refused {:2}", answer & 0xFF_FFFF),
+            1 => "Safe".to_string(),
+            2 => "Unsafe".to_string(),
+            _ => "No room".to_string(),
+        });
+        let masks = if answer >> 48 == 2 { (answer >> 24 & 0xFF_FFFF) as usize } else { 0 };
+        self.met.greatest("is the greatest L", masks);
+        if answer >> 48 > 0 {
+            self.met.greatest("is the greatest count", (answer & 0xFF_FFFF) as usize);
+        }
+        let list = trace.is()[..masks].to_vec();
+        if r.one_in(30) {
+            // A state byte, a spare byte, a byte that stays, or the answer.
+            let slots = if answer >> 48 == 0 { 0 } else { (answer & 0xFF_FFFF) as usize * SLOT };
+            let mut changed = answer;
+            match r.below(3) {
+                0 if work_len > 0 => {
+                    let mut at = r.below(work_len);
+                    if at < slots && (16..21).contains(&(at % SLOT)) {
+                        at -= 5; // parent and mask are free: take a state byte
+                    }
+                    work.space()[at] ^= 1 << r.below(8);
+                }
+                1 if trace_len > masks => {
+                    let at = r.range(masks, trace_len - 1);
+                    trace.space()[at] ^= 1 << r.below(8);
+                }
+                _ => changed ^= 1 << r.below(64),
+            }
+            if call(&work, &trace, changed, self).is_ok() {
+                return Err(told("a changed byte was not found".into()));
+            }
+            self.met.add("changed bytes found");
+        }
+        Ok(list)
+    }
+
+    fn replay(&mut self, r: &mut Rng, s: &Subject, list: &[u8], state_len: usize) -> Result<(), String> {
+        let mut state = Lent::new(r, state_len);
+        let answer = calls::replay(&s.sheet, list, state.space());
+        let shown = &list[..list.len().min(40)];
+        let told = |e: String| format!("list of {} bytes {shown:?}, state of {state_len}: {e}", list.len());
+        state.around_stays().map_err(told)?;
+        let outcome = check::replay_outcome(&self.m, &s.reading, list, state_len);
+        let call = Replayed { state_before: state.was(), state_after: state.is(), answer };
+        check::replayed(outcome, &call).map_err(told)?;
+        self.met.add("calls of the replay");
+        self.met.add(&match outcome {
+            Ok(Replay::Kept(_)) => "replay Kept".to_string(),
+            Ok(Replay::Missed(..)) => "replay Missed".to_string(),
+            Ok(Replay::Illegal(_)) => "replay refused 11".to_string(),
+            Err(n) => format!("replay refused {n:2}"),
+        });
+        Ok(())
+    }
+
+    /// Legal masks while nothing is missed, then any bytes.
+    fn list(&self, r: &mut Rng, t: &Table, len: usize) -> Vec<u8> {
+        let mut list = Vec::with_capacity(len);
+        let mut s = model::State::default();
+        let mut over = false;
+        for _ in 0..len {
+            if over {
+                list.push(r.byte());
+                continue;
+            }
+            let mut mask = 0;
+            for i in 0..t.tasks.len() {
+                if s.wait[i] == 0 && !r.one_in(3) {
+                    mask |= 1 << i;
+                }
+            }
+            list.push(mask);
+            match self.m.tick(t, &s, mask) {
+                model::Tick::Next(n) => s = n,
+                _ => over = true,
+            }
+        }
+        list
+    }
+
+    fn replays(&mut self, r: &mut Rng, s: &Subject, traces: &[Vec<u8>]) -> Result<(), String> {
+        let mut lists: Vec<Vec<u8>> = traces.to_vec();
+        lists.push(Vec::new());
+        let len = r.below(12);
+        let mut any = vec![0; len];
+        r.fill(&mut any);
+        lists.push(any);
+        if let Ok(t) = &s.reading {
+            for most in [4, 60] {
+                let len = r.below(most);
+                let mut list = self.list(r, t, len);
+                lists.push(list.clone());
+                if len > 0 {
+                    let at = r.below(len);
+                    list[at] = r.byte();
+                    lists.push(list);
+                }
+            }
+            for trace in traces {
+                // Beyond the miss, and short of it.
+                let mut longer = trace.clone();
+                longer.extend([r.byte(), 255]);
+                lists.push(longer);
+                lists.push(trace[..trace.len().saturating_sub(1)].to_vec());
+            }
+        }
+        for list in lists {
+            let len = match r.below(6) {
+                0 => r.below(16),
+                1 => 17,
+                2 => r.range(16, 64),
+                _ => 16,
+            };
+            self.replay(r, s, &list, len)?;
+        }
+        Ok(())
+    }
+
+    /// One generated sheet, with spaces at every edge.
+    fn case(&mut self, r: &mut Rng, sheet: Vec<u8>) -> Result<(), String> {
+        let s = self.subject(sheet, LIMIT);
+        self.met.add(&match &s.reading {
+            Ok(t) => format!("sheets of policy {}", t.policy),
+            Err(n) => format!("sheets refused {n}"),
+        });
+        let Some(levels) = &s.levels else {
+            for _ in 0..3 {
+                let k = r.below(4);
+                let work = k * SLOT + r.below(SLOT);
+                let trace = r.below(6);
+                self.search(r, &s, work, trace)?;
+            }
+            return self.replays(r, &s, &[]);
+        };
+        let mut sizes = vec![0, 1];
+        let last = *levels.counts.last().unwrap();
+        let highest = if levels.end == End::Cut { last - 1 } else { last + 1 };
+        if last <= 6 {
+            sizes.extend(0..=highest);
+        }
+        for n in [last, r.pick(&levels.counts)] {
+            sizes.extend([n.saturating_sub(1), n, n + 1]);
+        }
+        sizes.push(r.below(highest + 1));
+        if levels.end != End::Cut {
+            sizes.push(last + r.below(40));
+        }
+        sizes.retain(|&k| k <= LIMIT + 50 && levels.verdict(k).is_some());
+        sizes.sort();
+        sizes.dedup();
+        let mut traces = Vec::new();
+        for k in sizes {
+            for trace in [k.wrapping_sub(1), k, k + 1, k + r.below(30)] {
+                if trace == usize::MAX {
+                    continue;
+                }
+                let rest = if r.one_in(3) { 0 } else { r.below(SLOT) };
+                let list = self.search(r, &s, k * SLOT + rest, trace)?;
+                if !list.is_empty() && traces.is_empty() {
+                    traces.push(list);
+                }
+            }
+        }
+        self.replays(r, &s, &traces)
+    }
+
+    /// A table with thousands of states, and spaces large enough for it.
+    fn large_case(&mut self, r: &mut Rng, t: &Table, limit: usize, more: &[usize]) -> Result<(), String> {
+        let s = self.subject(model::write_sheet(t), limit);
+        let levels = s.levels.as_ref().unwrap();
+        let last = *levels.counts.last().unwrap();
+        self.met.add("large tables");
+        let mut traces = Vec::new();
+        for k in [last - 1, last, last + 1].iter().chain(more) {
+            let used = (*k).min(1_000_000);
+            if used > 0 && levels.verdict(used).is_some() {
+                let rest = r.below(SLOT);
+                let trace = used + r.below(2);
+                let list = self.search(r, &s, k * SLOT + rest, trace)?;
+                if !list.is_empty() {
+                    traces = vec![list];
+                }
+                self.search(r, &s, k * SLOT + rest, used - 1)?;
+            }
+        }
+        self.replays(r, &s, &traces)
+    }
+
+    /// Slot numbers past 16 bits, as many states as there can be slots, and a miss after hundreds of ticks.
+    fn largest_tables(&mut self, r: &mut Rng) -> Result<(), String> {
+        self.large_case(r, &table(0, 3, &[(1, 1, 50); 3]), 1 << 20, &[65_536, 65_537])?;
+        self.large_case(r, &table(3, 1, &[(20, 39, 39), (20, 40, 40)]), 1 << 20, &[1_000_000])?;
+        self.large_case(r, &table(1, 3, &[(1, 1, 100); 3]), 1 << 20, &[])
+    }
+
+    /// Every list of up to 4 ticks, played from the start: N(0) to N(4) and L against the levels.
+    fn brute_force(&mut self, t: &Table, masks: &[u8], ticks: usize) -> Result<(), String> {
+        let levels = self.m.levels(t, LIMIT);
+        let mut reached = HashSet::new();
+        let mut least = None;
+        let mut counts = Vec::new();
+        let mut lists: Vec<Vec<u8>> = vec![Vec::new()];
+        for d in 0..=ticks {
+            for list in &lists {
+                match self.m.replay(t, list) {
+                    Replay::Kept(s) => drop(reached.insert(s)),
+                    Replay::Missed(..) if least.is_none() => least = Some(d),
+                    _ => {}
+                }
+            }
+            self.met
+                .0
+                .entry("lists of the brute force".into())
+                .and_modify(|n| *n += lists.len())
+                .or_insert(lists.len());
+            counts.push(reached.len());
+            if d < ticks {
+                lists = lists
+                    .iter()
+                    .flat_map(|l| {
+                        masks.iter().map(|&mask| {
+                            let mut l = l.clone();
+                            l.push(mask);
+                            l
+                        })
+                    })
+                    .collect();
+            }
+        }
+        let l = match levels.end {
+            End::Miss(l) if l <= ticks => Some(l),
+            _ => None,
+        };
+        if least != l {
+            return Err(format!("{t:?}: least list that misses: {least:?} by brute force, {l:?} by levels"));
+        }
+        for (d, &n) in counts.iter().enumerate() {
+            let expected = match (levels.end, levels.counts.get(d)) {
+                (_, Some(&n)) => n,
+                (End::Closed, None) => *levels.counts.last().unwrap(),
+                _ => continue, // past the first miss, or past the limit
+            };
+            if n != expected {
+                return Err(format!("{t:?}: N({d}) is {n} by brute force, {expected} by levels"));
+            }
+        }
+        // And the library's answer at those counts.
+        let s = Subject { sheet: model::write_sheet(t), reading: Ok(t.clone()), levels: Some(levels) };
+        let mut r = Rng::new(1, 1);
+        for k in counts.iter().flat_map(|&n| [n, n - 1]) {
+            if s.levels.as_ref().unwrap().verdict(k).is_some() {
+                self.search(&mut r, &s, k * SLOT, k)?;
+            }
+        }
+        self.met.add("tables of the brute force");
+        Ok(())
+    }
+
+    /// Document 01's benchmark tables.
+    fn benchmarks(&mut self, r: &mut Rng) -> Result<(), String> {
+        let entries = [
+            (table(1, 1, &[(1, 2, 2), (1, 2, 2)]), 100, Verdict::Safe(4)),
+            (table(1, 1, &[(1, 2, 2), (1, 2, 2)]), 3, Verdict::NoRoom(3)),
+            (table(0, 1, &[(1, 1, 2), (2, 4, 4)]), 100, Verdict::Unsafe(2, 4)),
+            (table(0, 1, &[(1, 1, 2), (2, 4, 4)]), 3, Verdict::NoRoom(3)),
+            (table(1, 1, &[(1, 1, 1)]), 1, Verdict::Safe(1)),
+            (table(1, 1, &[(1, 1, 2), (1, 1, 2)]), 1, Verdict::Unsafe(1, 1)),
+            (table(1, 1, &[(1, 1, 200)]), 200, Verdict::Safe(200)),
+            (table(1, 1, &[(1, 1, 200)]), 199, Verdict::NoRoom(199)),
+        ];
+        for (t, k, v) in entries {
+            let s = self.subject(model::write_sheet(&t), LIMIT);
+            if s.levels.as_ref().unwrap().verdict(k) != Some(v) {
+                return Err(format!("{t:?} with K = {k}: not {v:?} by levels"));
+            }
+            self.search(r, &s, k * SLOT, k)?;
+        }
+        let s = self.subject(vec![3, 0, 1, 2, 1, 1, 2, 2, 4, 4], LIMIT);
+        let list = self.search(r, &s, 65_520, 8_192)?;
+        if list != [2, 1] {
+            return Err(format!("masks {list:?}, expected 2, 1"));
+        }
+        let t = table(1, 1, &[(2, 2, 2), (1, 2, 2)]);
+        if !matches!(self.m.replay(&t, &[3, 0]), Replay::Missed(2, _)) {
+            return Err("masks 3, 0 do not miss at tick 2".into());
+        }
+        let s = self.subject(model::write_sheet(&t), LIMIT);
+        self.replay(r, &s, &[3, 0], 16)
+    }
+
+    /// The sheets of a folder: "NAME SLOTS LINE" says what `verdict` prints first for NAME.sheet.
+    fn corpus(&mut self, r: &mut Rng, folder: &str) -> Result<(), String> {
+        let read = |name: &str| std::fs::read(format!("{folder}/{name}")).map_err(|e| format!("{name}: {e}"));
+        let cases = String::from_utf8(read("cases.txt")?).map_err(|e| e.to_string())?;
+        for line in cases.lines().filter(|l| !l.starts_with('#')) {
+            let mut words = line.splitn(3, ' ');
+            let (name, slots, expected) = (words.next().unwrap(), words.next().unwrap(), words.next().unwrap());
+            let (work, trace) = match slots.parse::<usize>() {
+                Ok(k) => (k * SLOT, k),
+                Err(_) => (65_520, 8_192),
+            };
+            let s = self.subject(read(&format!("{name}.sheet"))?, 10_000);
+            let found = match (check::search_refusal(&s.reading, work, trace), &s.levels) {
+                (Some(number), _) => format!("refused {number}"),
+                (None, Some(levels)) => match levels.verdict(check::slots_of(work)) {
+                    Some(Verdict::Safe(n)) => format!("safe {n}"),
+                    Some(Verdict::Unsafe(l, n)) => format!("unsafe {l} {n}"),
+                    Some(Verdict::NoRoom(k)) => format!("room {k}"),
+                    None => "undecided".to_string(),
+                },
+                (None, None) => unreachable!(),
+            };
+            if found != expected {
+                return Err(format!("{name} {slots}: {found}, expected {expected}"));
+            }
+            self.search(r, &s, work, trace).map_err(|e| format!("{name}: {e}"))?;
+            self.met.add("lines of the corpus");
+        }
+        Ok(())
+    }
+
+    /// Lists of more than 2^24 ticks, so that a tick's number needs more than 24 bits.
+    fn long_lists(&mut self, r: &mut Rng) -> Result<(), String> {
+        let s = self.subject(vec![3, 1, 1, 2, 1, 1, 2, 1, 1, 2], LIMIT);
+        let mut list = vec![0; (1 << 24) + 2];
+        self.replay(r, &s, &list, 16)?;
+        list[1 << 24] = 3;
+        self.replay(r, &s, &list, 16)?;
+        list[1 << 24] = 4;
+        self.replay(r, &s, &list, 16)
+    }
+}
+
+/// policy/cores: (C,D,P), ..
+fn table(policy: u8, cores: u8, tasks: &[(u8, u8, u8)]) -> Table {
+    let tasks = tasks.iter().map(|&(work, deadline, gap)| model::Task { work, deadline, gap }).collect();
+    Table { policy, cores, tasks }
+}
+
+fn hex(bytes: &[u8]) -> String {
+    bytes.iter().map(|b| format!("{b:02x} ")).collect()
+}
+
+fn whole_run(run: &mut Run, seed: u64, sheets: u64) -> Result<(), String> {
+    let mut r = Rng::new(seed, u64::MAX);
+    if run.m.fault == 0 {
+        // A seeded fault is left to the generated sheets.
+        run.benchmarks(&mut r).map_err(|e| format!("benchmark tables: {e}"))?;
+        for _ in 0..sheets.min(20_000) / 100 {
+            let t = gen::tiny_table(&mut r);
+            let mut masks: Vec<u8> = (0..1u8 << t.tasks.len()).collect();
+            masks.extend([8, 255]);
+            run.brute_force(&t, &masks, 4)?;
+        }
+        for _ in 0..sheets.min(20_000) / 2000 {
+            let t = gen::tiny_table(&mut r);
+            let masks: Vec<u8> = (0..=255).collect();
+            run.brute_force(&t, &masks, 2)?;
+        }
+    }
+    for i in 0..sheets {
+        one_sheet(run, seed, i)?;
+    }
+    for i in 0..sheets / 1000 {
+        let mut r = Rng::new(seed, 1 << 40 | i);
+        let t = gen::large_table(&mut r);
+        // Around the sizes at which the header's stack figures change, and around the cap.
+        let more: &[usize] = match i {
+            0 => &[16_383, 16_384, 16_385],
+            1 => &[262_143, 262_144, 262_145],
+            2 => &[999_999, 1_000_000, 1_000_001],
+            _ => &[],
+        };
+        run.large_case(&mut r, &t, 50_000, more).map_err(|e| format!("{t:?}: {e}"))?;
+    }
+    if sheets >= 20_000 {
+        run.largest_tables(&mut r).map_err(|e| format!("largest tables: {e}"))?;
+    }
+    run.long_lists(&mut r).map_err(|e| format!("long lists: {e}"))
+}
+
+fn one_sheet(run: &mut Run, seed: u64, i: u64) -> Result<(), String> {
+    let mut r = Rng::new(seed, i);
+    let sheet = gen::sheet(&mut r);
+    let shown = hex(&sheet);
+    run.case(&mut r, sheet).map_err(|e| format!("case {i}, sheet {shown}: {e}"))
+}
+
+/// A full run must have met every answer and refusal, or the generated sheets show too little.
+fn complete(met: &Met) -> Result<(), String> {
+    let mut all: Vec<String> = (1..=10).map(|n| format!("search refused {n:2}")).collect();
+    all.extend([1, 2, 3, 4, 5, 6, 7, 8, 11, 12].map(|n| format!("replay refused {n:2}")));
+    all.extend((0..4).map(|p| format!("sheets of policy {p}")));
+    all.extend(["Safe", "Unsafe", "No room", "replay Kept", "replay Missed"].map(String::from));
+    match all.iter().find(|what| met.of(what) < 20) {
+        Some(what) => Err(format!("met fewer than 20 times: {what}")),
+        None => Ok(()),
+    }
+}
+
+fn main() {
+    let (mut seed, mut sheets, mut case, mut fault, mut folder) = (rng::fresh_seed(), 20_000, None, 0, None);
+    let mut args = std::env::args().skip(1);
+    while let Some(name) = args.next() {
+        let value = args.next().unwrap_or_else(|| usage());
+        if name == "--corpus" {
+            folder = Some(value);
+            continue;
+        }
+        let value: u64 = value.parse().unwrap_or_else(|_| usage());
+        match name.as_str() {
+            "--seed" => seed = value,
+            "--sheets" => sheets = value,
+            "--case" => case = Some(value),
+            "--fault" if (1..=model::FAULTS.len() as u64).contains(&value) => fault = value as u8,
+            _ => usage(),
+        }
+    }
+    println!("differ: seed {seed}, {sheets} sheets");
+    if fault > 0 {
+        println!("seeded fault {fault}: {}", model::FAULTS[fault as usize - 1]);
+    }
+    let start = std::time::Instant::now();
+    let mut run = Run { m: Model { fault }, met: Met::default() };
+    let mut outcome = match case {
+        Some(i) => one_sheet(&mut run, seed, i),
+        None => whole_run(&mut run, seed, sheets),
+    };
+    if outcome.is_ok() && case.is_none() && sheets >= 20_000 {
+        outcome = complete(&run.met);
+    }
+    if let (Ok(()), Some(folder)) = (&outcome, folder) {
+        outcome = run.corpus(&mut Rng::new(seed, 1 << 41), &folder).map_err(|e| format!("corpus: {e}"));
+    }
+    for (what, n) in &run.met.0 {
+        println!("{n:10}  {what}");
+    }
+    match outcome {
+        Ok(()) => println!("differ: no difference in {:.1} s", start.elapsed().as_secs_f64()),
+        Err(e) => {
+            println!("differ: FAILED (seed {seed}): {e}");
+            std::process::exit(1);
+        }
+    }
+}
+
+fn usage() -> ! {
+    eprintln!("usage: differ [--seed S] [--sheets N] [--case I] [--fault 1..5] [--corpus DIR]");
+    std::process::exit(2);
+}

@@ -1,0 +1,275 @@
+//! Fuzz driver: both calls on random sheets, lists and sizes of spaces, with pages that fault on any access
+//! on both sides of every space. The input stands in pages that fault on a write.
+//!
+//!     fuzz [--seconds S] [--seed S] [--from I] [--cases N]
+//!
+//! Prints its seed. A fault prints the number of its case, which `--seed S --from I --cases 1` runs again.
+//! Every outcome is judged by the rules of check.rs.
+
+mod calls;
+mod check;
+#[allow(dead_code)]
+mod gen;
+#[allow(dead_code)]
+mod model;
+mod rng;
+
+use check::{Replayed, Searched, SLOT};
+use model::{Model, Verdict};
+use rng::Rng;
+use std::io::Write;
+use std::sync::atomic::{AtomicU64, Ordering};
+use std::time::{Duration, Instant};
+
+const PAGE: usize = 4096;
+const NONE: i32 = 0;
+const READ: i32 = 1;
+const READ_WRITE: i32 = 3;
+
+extern "C" {
+    fn mmap(at: *mut u8, len: usize, access: i32, flags: i32, file: i32, offset: i64) -> *mut u8;
+    fn mprotect(at: *mut u8, len: usize, access: i32) -> i32;
+    fn signal(number: i32, handler: extern "C" fn(i32)) -> usize;
+    fn write(file: i32, bytes: *const u8, len: usize) -> isize;
+    fn _exit(status: i32) -> !;
+}
+
+static SEED: AtomicU64 = AtomicU64::new(0);
+static CASE: AtomicU64 = AtomicU64::new(0);
+
+/// Says which case faulted, with nothing but calls that a signal handler may make.
+extern "C" fn on_fault(number: i32) {
+    let say = |text: &[u8]| unsafe {
+        write(2, text.as_ptr(), text.len());
+    };
+    let number_of = |name: &[u8], mut x: u64| {
+        let mut digits = [0u8; 20];
+        let mut at = digits.len();
+        loop {
+            at -= 1;
+            digits[at] = b'0' + (x % 10) as u8;
+            x /= 10;
+            if x == 0 {
+                break;
+            }
+        }
+        say(name);
+        say(&digits[at..]);
+    };
+    number_of(b"fuzz: FAILED with signal ", number as u64);
+    number_of(b": --seed ", SEED.load(Ordering::Relaxed));
+    number_of(b" --from ", CASE.load(Ordering::Relaxed));
+    say(b" --cases 1\n");
+    unsafe { _exit(1) }
+}
+
+/// Pages between two that fault on any access.
+struct Fenced {
+    first: *mut u8,
+    size: usize,
+}
+
+/// Part of the pages, at their front or at their end.
+struct Part {
+    at: usize,
+    len: usize,
+}
+
+impl Fenced {
+    fn new(size: usize) -> Fenced {
+        let size = size.div_ceil(PAGE) * PAGE;
+        let private_anonymous_unreserved = 0x02 | 0x20 | 0x4000;
+        unsafe {
+            let base = mmap(std::ptr::null_mut(), size + 2 * PAGE, NONE, private_anonymous_unreserved, -1, 0);
+            assert!(base as isize != -1, "no memory");
+            let first = base.add(PAGE);
+            assert!(mprotect(first, size, READ_WRITE) == 0);
+            Fenced { first, size }
+        }
+    }
+
+    fn access(&self, access: i32) {
+        assert!(unsafe { mprotect(self.first, self.size, access) } == 0);
+    }
+
+    fn part(&self, r: &mut Rng, len: usize) -> Part {
+        assert!(len <= self.size);
+        Part { at: if r.one_in(2) { 0 } else { self.size - len }, len }
+    }
+
+    #[allow(clippy::mut_from_ref)]
+    fn bytes(&self, p: &Part) -> &mut [u8] {
+        assert!(p.at + p.len <= self.size);
+        unsafe { std::slice::from_raw_parts_mut(self.first.add(p.at), p.len) }
+    }
+
+    /// The bytes beside the part, up to a page of them.
+    fn beside(&self, p: &Part) -> &mut [u8] {
+        let rest = (self.size - p.len).min(PAGE);
+        let at = if p.at == 0 { p.len } else { p.at - rest };
+        self.bytes(&Part { at, len: rest })
+    }
+}
+
+struct Spaces {
+    input: Fenced,
+    list: Fenced,
+    state: Fenced,
+    work: Fenced,
+    trace: Fenced,
+}
+
+impl Spaces {
+    fn of(work: usize, trace: usize) -> Spaces {
+        Spaces {
+            input: Fenced::new(PAGE),
+            list: Fenced::new(PAGE),
+            state: Fenced::new(PAGE),
+            work: Fenced::new(work),
+            trace: Fenced::new(trace),
+        }
+    }
+}
+
+/// A lent part filled with random bytes, and those beside it with a pattern.
+fn lend(r: &mut Rng, pages: &Fenced, len: usize) -> (Part, Vec<u8>) {
+    let part = pages.part(r, len);
+    pages.beside(&part).fill(0xA5);
+    r.fill(pages.bytes(&part));
+    let before = pages.bytes(&part).to_vec();
+    (part, before)
+}
+
+fn beside_stays(pages: &Fenced, part: &Part) -> Result<(), String> {
+    if pages.beside(part).iter().any(|&b| b != 0xA5) {
+        return Err("a byte outside a lent space changed".into());
+    }
+    Ok(())
+}
+
+fn put(r: &mut Rng, pages: &Fenced, bytes: &[u8]) -> Part {
+    pages.access(READ_WRITE);
+    let part = pages.part(r, bytes.len());
+    pages.bytes(&part).copy_from_slice(bytes);
+    pages.access(READ);
+    part
+}
+
+/// What the answer says, where it says something that can be.
+fn verdict_of(answer: u64) -> Option<Verdict> {
+    let (l, n) = ((answer >> 24 & 0xFF_FFFF) as usize, (answer & 0xFF_FFFF) as usize);
+    match answer >> 48 {
+        1 if l == 0 => Some(Verdict::Safe(n)),
+        2 if l > 0 => Some(Verdict::Unsafe(l, n)),
+        3 if l == 0 => Some(Verdict::NoRoom(n)),
+        _ => None,
+    }
+}
+
+fn case(r: &mut Rng, m: &Model, spaces: &Spaces, most_slots: usize, found: &mut [usize; 5]) -> Result<(), String> {
+    let sheet = gen::sheet(r);
+    let reading = m.read_sheet(&sheet);
+    let input = put(r, &spaces.input, &sheet);
+    let slots = match r.below(8) {
+        0 => 0,
+        1 => 1,
+        2 => most_slots,
+        3 => r.range(0, most_slots),
+        _ => r.range(0, most_slots.min(300)),
+    };
+    let rest = if r.one_in(2) { 0 } else { r.below(SLOT) };
+    let work_len = (slots * SLOT + rest).min(spaces.work.size);
+    let trace_len = match r.below(6) {
+        0 => slots.saturating_sub(1),
+        1 => r.below(slots + 2),
+        2 => slots + r.below(50),
+        _ => slots,
+    };
+    let (work, work_before) = lend(r, &spaces.work, work_len);
+    let (trace, trace_before) = lend(r, &spaces.trace, trace_len);
+    let answer = calls::verdict(spaces.input.bytes(&input), spaces.work.bytes(&work), spaces.trace.bytes(&trace));
+    let told = |e: String| format!("sheet {sheet:?}, work {work_len}, trace {trace_len}, answer {answer:#x}: {e}");
+    beside_stays(&spaces.work, &work).map_err(told)?;
+    beside_stays(&spaces.trace, &trace).map_err(told)?;
+    let call = Searched {
+        work_before: &work_before,
+        work_after: spaces.work.bytes(&work),
+        trace_before: &trace_before,
+        trace_after: spaces.trace.bytes(&trace),
+        answer,
+    };
+    let mut list = vec![0; r.below(40)];
+    r.fill(&mut list);
+    match (&reading, check::search_refusal(&reading, work_len, trace_len)) {
+        (_, Some(number)) => check::refused(number, &call).map_err(told)?,
+        (Ok(t), None) => {
+            let v = verdict_of(answer).ok_or_else(|| told("no answer of the list".into()))?;
+            check::answered(m, t, v, None, &call).map_err(told)?;
+            if let Verdict::Unsafe(l, _) = v {
+                list = call.trace_after[..l.min(PAGE)].to_vec();
+            } else if r.one_in(2) {
+                list.iter_mut().for_each(|b| *b &= 1);
+            }
+        }
+        (Err(_), None) => unreachable!(),
+    }
+    found[(answer >> 48) as usize] += 1;
+    let (state_len, played) = (r.pick(&[0, 15, 16, 16, 16, 17, 33]), put(r, &spaces.list, &list));
+    let (state, state_before) = lend(r, &spaces.state, state_len);
+    let answer = calls::replay(spaces.input.bytes(&input), spaces.list.bytes(&played), spaces.state.bytes(&state));
+    let told = |e: String| format!("sheet {sheet:?}, list {list:?}, state {state_len}, answer {answer:#x}: {e}");
+    beside_stays(&spaces.state, &state).map_err(told)?;
+    let call = Replayed { state_before: &state_before, state_after: spaces.state.bytes(&state), answer };
+    check::replayed(check::replay_outcome(m, &reading, &list, state_len), &call).map_err(told)?;
+    found[4] += 1;
+    Ok(())
+}
+
+fn main() {
+    let (mut seconds, mut seed, mut from, mut cases) = (60, rng::fresh_seed(), 0, u64::MAX);
+    let mut args = std::env::args().skip(1);
+    while let Some(name) = args.next() {
+        let value: u64 = args.next().and_then(|v| v.parse().ok()).unwrap_or_else(|| usage());
+        match name.as_str() {
+            "--seconds" => seconds = value,
+            "--seed" => seed = value,
+            "--from" => from = value,
+            "--cases" => cases = value,
+            _ => usage(),
+        }
+    }
+    println!("fuzz: seed {seed}, {seconds} s");
+    std::io::stdout().flush().unwrap();
+    SEED.store(seed, Ordering::Relaxed);
+    for number in [4, 6, 7, 8, 11] {
+        unsafe { signal(number, on_fault) };
+    }
+    let (small, large) = (Spaces::of(3000 * SLOT, 4096), Spaces::of(1_000_010 * SLOT, 1_000_100));
+    let m = Model { fault: 0 };
+    let mut found = [0; 5];
+    let end = Instant::now() + Duration::from_secs(seconds);
+    let mut i = from;
+    while i - from < cases && (cases != u64::MAX || Instant::now() < end) {
+        CASE.store(i, Ordering::Relaxed);
+        let mut r = Rng::new(seed, i);
+        let outcome = if r.one_in(5000) {
+            let slots = r.pick(&[16_384, 16_385, 262_144, 262_145, 1_000_000, 1_000_009]);
+            case(&mut r, &m, &large, slots, &mut found)
+        } else {
+            let slots = r.pick(&[10, 300, 2999]);
+            case(&mut r, &m, &small, slots, &mut found)
+        };
+        if let Err(e) = outcome {
+            println!("fuzz: FAILED: --seed {seed} --from {i} --cases 1: {e}");
+            std::process::exit(1);
+        }
+        i += 1;
+    }
+    let [refused, safe, miss, room, replays] = found;
+    println!("fuzz: {} searches ({safe} Safe, {miss} Unsafe, {room} No room, {refused} refused), {replays} replays, no fault", i - from);
+}
+
+fn usage() -> ! {
+    eprintln!("usage: fuzz [--seconds S] [--seed S] [--from I] [--cases N]");
+    std::process::exit(2);
+}

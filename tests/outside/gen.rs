@@ -1,0 +1,157 @@
+//! Generated sheets, valid and damaged.
+
+use crate::model::{self, Table, Task};
+use crate::rng::Rng;
+
+/// Numbers at and beside the limits of a sheet's fields.
+const EDGES: [u32; 18] = [0, 1, 2, 3, 4, 7, 8, 9, 126, 127, 128, 129, 199, 200, 201, 256, 257, 16383];
+
+fn task(r: &mut Rng, gap: usize, most_work: usize) -> Task {
+    let work = r.range(1, gap.min(most_work));
+    let deadline = match r.below(4) {
+        0 => gap,
+        1 => work,
+        _ => r.range(work, gap),
+    };
+    Task { work: work as u8, deadline: deadline as u8, gap: gap as u8 }
+}
+
+fn with_gaps(r: &mut Rng, n: usize, least: usize, most: usize, most_work: usize) -> Vec<Task> {
+    (0..n)
+        .map(|_| {
+            let gap = r.range(least, most);
+            task(r, gap, most_work)
+        })
+        .collect()
+}
+
+/// A valid table. Most have at most some hundreds of states; some have more than any search here looks at.
+pub fn table(r: &mut Rng) -> Table {
+    let tasks = match r.below(100) {
+        0..=29 => {
+            let n = r.range(1, 3);
+            with_gaps(r, n, 1, 6, 3)
+        }
+        30..=44 => {
+            let n = r.range(2, 3);
+            with_gaps(r, n, 3, 9, 2)
+        }
+        45..=59 => with_gaps(r, 2, 1, 24, 6),
+        60..=69 => {
+            let n = r.range(4, 8);
+            with_gaps(r, n, 1, 3, 1)
+        }
+        70..=77 => {
+            let n = r.range(3, 5);
+            with_gaps(r, n, 2, 4, 4)
+        }
+        78..=85 => with_gaps(r, 1, 1, 200, 200),
+        86..=93 => {
+            let mut tasks = with_gaps(r, 1, 100, 200, 20);
+            tasks.extend(with_gaps(r, 1, 1, 3, 2));
+            if r.one_in(2) {
+                tasks.reverse();
+            }
+            tasks
+        }
+        _ => {
+            let n = r.range(1, 8);
+            let work = r.range(1, 200);
+            with_gaps(r, n, 1, 200, work)
+        }
+    };
+    with_policy(r, tasks)
+}
+
+/// Two tasks with large gaps: some thousands to 40,000 states.
+pub fn large_table(r: &mut Rng) -> Table {
+    let tasks = with_gaps(r, 2, 60, 200, 12);
+    with_policy(r, tasks)
+}
+
+/// A table for the brute force.
+pub fn tiny_table(r: &mut Rng) -> Table {
+    let n = r.range(1, 3);
+    let tasks = with_gaps(r, n, 1, 4, 3);
+    with_policy(r, tasks)
+}
+
+fn with_policy(r: &mut Rng, tasks: Vec<Task>) -> Table {
+    let cores = match r.below(8) {
+        0..=3 => 1,
+        4..=5 => 2,
+        6 => r.range(1, tasks.len()),
+        _ => r.range(1, 8),
+    };
+    Table { policy: r.below(4) as u8, cores: cores as u8, tasks }
+}
+
+/// One change of a sheet's bytes.
+fn damage(r: &mut Rng, sheet: &mut Vec<u8>) {
+    let at = r.below(sheet.len() + 1);
+    let within = at < sheet.len();
+    match r.below(7) {
+        0 if within => sheet[at] ^= 1 << r.below(8),
+        1 if within => sheet[at] = r.byte(),
+        2 if within => {
+            sheet.remove(at);
+        }
+        3 if within => sheet.truncate(at),
+        4 if within => sheet[at] |= 128,
+        5 => {
+            let b = r.pick(&[0, 1, 127, 128, 129, 255]);
+            sheet.insert(at, b);
+        }
+        _ => sheet.push(r.byte()),
+    }
+}
+
+/// A sheet with some of its numbers replaced.
+fn odd_numbers(r: &mut Rng, t: &Table, changes: usize) -> Vec<u8> {
+    let mut v = model::numbers(t);
+    for _ in 0..changes {
+        let at = if r.one_in(2) { r.below(4) } else { r.below(v.len()) };
+        v[at] = match r.below(5) {
+            0 => (v[at] + 1).min(16383),
+            1 => v[at].saturating_sub(1),
+            2 => 201,
+            3 => r.pick(&EDGES),
+            _ => r.below(300) as u32,
+        };
+    }
+    let mut out = Vec::new();
+    for x in v {
+        model::push_number(&mut out, x);
+    }
+    out
+}
+
+/// A sheet: half of them valid, the others damaged in one place, in several, or random bytes.
+pub fn sheet(r: &mut Rng) -> Vec<u8> {
+    let t = table(r);
+    let mut sheet = model::write_sheet(&t);
+    match r.below(20) {
+        0..=9 => {}
+        10..=12 => damage(r, &mut sheet),
+        13..=15 => sheet = odd_numbers(r, &t, 1),
+        16..=17 => {
+            for _ in 0..r.range(2, 5) {
+                damage(r, &mut sheet);
+            }
+        }
+        18 => {
+            let changes = r.range(2, 4);
+            sheet = odd_numbers(r, &t, changes);
+            damage(r, &mut sheet);
+        }
+        _ => {
+            let n = r.below(64);
+            sheet = vec![0; n];
+            r.fill(&mut sheet);
+            if n > 3 && r.one_in(2) {
+                sheet[..3].copy_from_slice(&[3, 1, 2]);
+            }
+        }
+    }
+    sheet
+}

@@ -1,0 +1,350 @@
+//! The rules of document 01 written once more: sheet, tick, replay, and a search with plain sets.
+//! Slow and direct; shares nothing with the library. Section names in the comments are document 01's.
+//! Tasks are counted from 0 here, so task i of this file is the document's task i + 1.
+
+use std::collections::HashMap;
+
+pub const TASKS: usize = 8;
+
+#[derive(Clone, Copy, PartialEq, Eq, Debug)]
+pub struct Task {
+    pub work: u8,
+    pub deadline: u8,
+    pub gap: u8,
+}
+
+/// A valid table: policy 0 to 3, 1 to 8 cores, 1 to 8 tasks.
+#[derive(Clone, PartialEq, Eq, Debug)]
+pub struct Table {
+    pub policy: u8,
+    pub cores: u8,
+    pub tasks: Vec<Task>,
+}
+
+/// c and p of each of eight tasks.
+#[derive(Clone, Copy, PartialEq, Eq, Hash, Debug, Default)]
+pub struct State {
+    pub left: [u8; TASKS],
+    pub wait: [u8; TASKS],
+}
+
+impl State {
+    /// "The search": c, p of task 1, then task 2 and so on.
+    pub fn bytes(&self) -> [u8; 16] {
+        let mut b = [0; 16];
+        for i in 0..TASKS {
+            b[2 * i] = self.left[i];
+            b[2 * i + 1] = self.wait[i];
+        }
+        b
+    }
+
+    pub fn from_bytes(b: &[u8]) -> State {
+        let mut s = State::default();
+        for i in 0..TASKS {
+            s.left[i] = b[2 * i];
+            s.wait[i] = b[2 * i + 1];
+        }
+        s
+    }
+}
+
+#[derive(Clone, Copy, PartialEq, Eq, Debug)]
+pub enum Tick {
+    Next(State),
+    Missed(State),
+    Illegal,
+}
+
+#[derive(Clone, Copy, PartialEq, Eq, Debug)]
+pub enum Replay {
+    Kept(State),
+    Missed(usize, State),
+    Illegal(usize),
+}
+
+#[derive(Clone, Copy, PartialEq, Eq, Debug)]
+pub enum Verdict {
+    Safe(usize),
+    Unsafe(usize, usize),
+    NoRoom(usize),
+}
+
+/// How a search by levels ended.
+#[derive(Clone, Copy, PartialEq, Eq, Debug)]
+pub enum End {
+    /// Some list of that many ticks misses, and none of fewer.
+    Miss(usize),
+    /// No list misses, and every state that lists reach is there.
+    Closed,
+    /// More states than the limit, and no miss so far.
+    Cut,
+}
+
+/// The states that lists reach with no miss, each with the least number of ticks.
+pub struct Levels {
+    /// counts[d] is N(d).
+    pub counts: Vec<usize>,
+    pub depth: HashMap<State, usize>,
+    pub end: End,
+}
+
+impl Levels {
+    /// Demand 3 for K slots. None where the search was cut before this K was decided.
+    pub fn verdict(&self, k: usize) -> Option<Verdict> {
+        let last = *self.counts.last().unwrap();
+        match self.end {
+            End::Miss(l) if self.counts[l - 1] <= k => Some(Verdict::Unsafe(l, self.counts[l - 1])),
+            End::Closed if last <= k => Some(Verdict::Safe(last)),
+            End::Cut if last <= k => None,
+            _ => Some(Verdict::NoRoom(k)),
+        }
+    }
+}
+
+/// The rules. `fault` 0 is the document; another number is a seeded mistake, to show that a comparison can fail.
+#[derive(Clone, Copy)]
+pub struct Model {
+    pub fault: u8,
+}
+
+/// Faults that `Model` knows.
+pub const FAULTS: [&str; 5] = [
+    "under NP an urgent job takes a started job's core",
+    "a deadline is tested only when no time is left",
+    "a task's rule is judged after all tasks",
+    "the count of Unsafe is N(L)",
+    "a replay numbers its ticks from 0",
+];
+
+// The sheet.
+
+/// "The sheet as bytes": one number at a place, and the place after it; or refusal 1 or 2.
+fn number(sheet: &[u8], at: usize) -> Result<(u32, usize), u8> {
+    let low = *sheet.get(at).ok_or(1u8)?;
+    if low < 128 {
+        return Ok((low as u32, at + 1));
+    }
+    let high = *sheet.get(at + 1).ok_or(1u8)?;
+    if high == 0 || high > 127 {
+        return Err(2);
+    }
+    Ok(((low as u32 - 128) + 128 * high as u32, at + 2))
+}
+
+/// A number's bytes.
+pub fn push_number(out: &mut Vec<u8>, x: u32) {
+    assert!(x < 128 * 128);
+    if x < 128 {
+        out.push(x as u8);
+    } else {
+        out.push((x % 128 + 128) as u8);
+        out.push((x / 128) as u8);
+    }
+}
+
+/// A table's numbers in the sheet's order.
+pub fn numbers(t: &Table) -> Vec<u32> {
+    let mut v = vec![3, t.policy as u32, t.cores as u32, t.tasks.len() as u32];
+    for task in &t.tasks {
+        v.extend([task.work as u32, task.deadline as u32, task.gap as u32]);
+    }
+    v
+}
+
+pub fn write_sheet(t: &Table) -> Vec<u8> {
+    let mut out = Vec::new();
+    for x in numbers(t) {
+        push_number(&mut out, x);
+    }
+    out
+}
+
+impl Model {
+    /// "Refusals by cause": a sheet is judged in reading order.
+    pub fn read_sheet(&self, sheet: &[u8]) -> Result<Table, u8> {
+        let (fields, at) = number(sheet, 0)?;
+        if fields != 3 {
+            return Err(3);
+        }
+        let (policy, at) = number(sheet, at)?;
+        if policy > 3 {
+            return Err(4);
+        }
+        let (cores, at) = number(sheet, at)?;
+        if !(1..=8).contains(&cores) {
+            return Err(5);
+        }
+        let (n, mut at) = number(sheet, at)?;
+        if !(1..=8).contains(&n) {
+            return Err(6);
+        }
+        let mut tasks = Vec::new();
+        let mut broken = false;
+        for _ in 0..n {
+            let (c, next) = number(sheet, at)?;
+            let (d, next) = number(sheet, next)?;
+            let (p, next) = number(sheet, next)?;
+            at = next;
+            if !(1 <= c && c <= d && d <= p && p <= 200) {
+                if self.fault != 3 {
+                    return Err(7);
+                }
+                broken = true;
+            }
+            tasks.push(Task { work: (c % 256) as u8, deadline: (d % 256) as u8, gap: (p % 256) as u8 });
+        }
+        if broken {
+            return Err(7);
+        }
+        if at < sheet.len() {
+            return Err(8);
+        }
+        Ok(Table { policy: policy as u8, cores: cores as u8, tasks })
+    }
+
+    // The tick.
+
+    /// "One tick", from a proper state.
+    pub fn tick(&self, t: &Table, s: &State, mask: u8) -> Tick {
+        let n = t.tasks.len();
+        let mut s = *s;
+        for i in 0..TASKS {
+            if mask & 1 << i == 0 {
+                continue;
+            }
+            if i >= n || s.wait[i] > 0 {
+                return Tick::Illegal;
+            }
+            s.left[i] = t.tasks[i].work;
+            s.wait[i] = t.tasks[i].gap;
+        }
+        // Steps 2 and 3: sort the ready jobs, then hand out the cores.
+        let preempted = t.policy == 1 || t.policy == 3 || self.fault == 1;
+        let by_deadline = t.policy == 2 || t.policy == 3;
+        let mut ready = [(0i32, 0i32, 0usize); TASKS];
+        let mut jobs = 0;
+        for i in 0..n {
+            if s.left[i] > 0 {
+                let started = s.left[i] < t.tasks[i].work;
+                let first = if !preempted && started { 0 } else { 1 };
+                let key = if by_deadline { time_left(t, &s, i) } else { 0 };
+                ready[jobs] = (first, key, i);
+                jobs += 1;
+            }
+        }
+        let ready = &mut ready[..jobs];
+        ready.sort_unstable();
+        for (place, &(first, _, i)) in ready.iter().enumerate() {
+            if first == 0 || place < t.cores as usize {
+                s.left[i] -= 1;
+            }
+        }
+        for i in 0..n {
+            s.wait[i] = s.wait[i].saturating_sub(1);
+        }
+        let late = |i: usize| {
+            let d = time_left(t, &s, i);
+            let slack = d - s.left[i] as i32;
+            s.left[i] > 0 && if self.fault == 2 { d <= 0 } else { slack < 0 }
+        };
+        if (0..n).any(late) {
+            Tick::Missed(s)
+        } else {
+            Tick::Next(s)
+        }
+    }
+
+    /// "State": proper.
+    pub fn proper(&self, t: &Table, s: &State) -> bool {
+        let n = t.tasks.len();
+        let mut started = 0;
+        for i in 0..TASKS {
+            if i >= n {
+                if s.left[i] != 0 || s.wait[i] != 0 {
+                    return false;
+                }
+                continue;
+            }
+            let task = t.tasks[i];
+            if s.left[i] > task.work || s.wait[i] > task.gap {
+                return false;
+            }
+            if s.left[i] > 0 && time_left(t, s, i) - (s.left[i] as i32) < 0 {
+                return false;
+            }
+            if 0 < s.left[i] && s.left[i] < task.work {
+                started += 1;
+            }
+        }
+        t.policy == 1 || t.policy == 3 || started <= t.cores
+    }
+
+    /// "Replay", from the start state.
+    pub fn replay(&self, t: &Table, list: &[u8]) -> Replay {
+        let mut s = State::default();
+        let first = if self.fault == 5 { 0 } else { 1 };
+        for (i, &mask) in list.iter().enumerate() {
+            match self.tick(t, &s, mask) {
+                Tick::Next(next) => s = next,
+                Tick::Missed(last) => return Replay::Missed(i + first, last),
+                Tick::Illegal => return Replay::Illegal(i + first),
+            }
+        }
+        Replay::Kept(s)
+    }
+
+    // The search.
+
+    /// Level by level, all 256 masks from each state, until a miss, or no new state, or more than `limit` states.
+    pub fn levels(&self, t: &Table, limit: usize) -> Levels {
+        let start = State::default();
+        let mut depth = HashMap::from([(start, 0)]);
+        let mut counts = vec![1];
+        let mut level = vec![start];
+        let mut d = 0;
+        loop {
+            let mut miss = false;
+            let mut next = Vec::new();
+            for s in &level {
+                for mask in 0..=255 {
+                    match self.tick(t, s, mask) {
+                        Tick::Next(r) => {
+                            if !depth.contains_key(&r) {
+                                assert!(self.fault != 0 || self.proper(t, &r), "{t:?} {s:?} {mask}: not proper");
+                                depth.insert(r, d + 1);
+                                next.push(r);
+                            }
+                        }
+                        Tick::Missed(_) => miss = true,
+                        Tick::Illegal => {}
+                    }
+                }
+            }
+            if miss {
+                if self.fault == 4 {
+                    counts[d] = depth.len();
+                } else {
+                    for s in &next {
+                        depth.remove(s);
+                    }
+                }
+                return Levels { counts, depth, end: End::Miss(d + 1) };
+            }
+            if next.is_empty() {
+                return Levels { counts, depth, end: End::Closed };
+            }
+            counts.push(depth.len());
+            if depth.len() > limit {
+                return Levels { counts, depth, end: End::Cut };
+            }
+            level = next;
+            d += 1;
+        }
+    }
+}
+
+/// d = D - (P - p).
+fn time_left(t: &Table, s: &State, i: usize) -> i32 {
+    t.tasks[i].deadline as i32 - (t.tasks[i].gap as i32 - s.wait[i] as i32)
+}

@@ -1,0 +1,80 @@
+/* Measures the stack that the two calls use, on a thread whose stack was filled with a pattern, and compares it with the
+ * figures of ronchhek.h. Prints a line for each size of work space; ends with status 1 where a figure is too low. */
+#include <pthread.h>
+#include <stdio.h>
+#include <stdlib.h>
+#include <string.h>
+
+#include "ronchhek.h"
+
+enum { STACK = 4 << 20, PATTERN = 0xA5 };
+
+static const uint8_t sheet[] = {3, 3, 2, 4, 2, 40, 60, 3, 50, 70, 4, 60, 80, 1, 3, 3};
+
+struct job {
+    int kind; /* 0 nothing, 1 verdict, 2 replay */
+    uint8_t *work, *trace;
+    size_t slots;
+};
+
+static void *run(void *given)
+{
+    struct job *job = given;
+    uint8_t state[RONCHHEK_STATE_BYTES];
+    static const uint8_t list[64] = {15};
+    if (job->kind == 1)
+        ronchhek_verdict(sheet, sizeof sheet, job->work, job->slots * RONCHHEK_SLOT_BYTES, job->trace, job->slots);
+    if (job->kind == 2)
+        ronchhek_replay(sheet, sizeof sheet, list, sizeof list, state, sizeof state);
+    return NULL;
+}
+
+/* Bytes from the lowest one that changed to the stack's end. */
+static size_t used(struct job *job)
+{
+    static uint8_t *stack;
+    pthread_attr_t attributes;
+    pthread_t thread;
+    if (!stack)
+        stack = aligned_alloc(4096, STACK);
+    memset(stack, PATTERN, STACK);
+    if (pthread_attr_init(&attributes) || pthread_attr_setstack(&attributes, stack, STACK)
+        || pthread_create(&thread, &attributes, run, job) || pthread_join(thread, NULL)) {
+        fputs("stack: no thread\n", stderr);
+        exit(2);
+    }
+    size_t low = 0;
+    while (low < STACK && stack[low] == PATTERN)
+        low++;
+    return STACK - low;
+}
+
+int main(void)
+{
+    static const size_t slots[] = {1, 2730, 16384, 16385, 65536, 262144, 262145, 1000000};
+    uint8_t *work = malloc((size_t)RONCHHEK_MOST_SLOTS * RONCHHEK_SLOT_BYTES);
+    uint8_t *trace = malloc(RONCHHEK_MOST_SLOTS);
+    struct job job = {0, work, trace, 0};
+    size_t thread = used(&job); /* what a thread itself uses */
+    int status = 0;
+    job.kind = 2;
+    size_t replay = used(&job) - thread;
+    printf("stack of a replay: %zu of %d\n", replay, RONCHHEK_STACK_REPLAY);
+    if (replay > RONCHHEK_STACK_REPLAY)
+        status = 1;
+    job.kind = 1;
+    for (size_t i = 0; i < sizeof slots / sizeof *slots; i++) {
+        job.slots = slots[i];
+        size_t stated = slots[i] <= RONCHHEK_SLOTS_SMALL ? RONCHHEK_STACK_SMALL
+                      : slots[i] <= RONCHHEK_SLOTS_MEDIUM ? RONCHHEK_STACK_MEDIUM
+                      : RONCHHEK_STACK_LARGE;
+        size_t measured = used(&job) - thread;
+        printf("stack with %zu slots: %zu of %zu\n", slots[i], measured, stated);
+        if (measured > stated)
+            status = 1;
+    }
+    free(work);
+    free(trace);
+    puts(status ? "stack: FAILED, a figure of the header is too low" : "stack: within the header's figures");
+    return status;
+}
