@@ -33,7 +33,8 @@ loop-holds c =
 hunt-requires : tie.Need-hunt-requires Inv-loop μ-loop
 hunt-requires c κs =
     let stands = c .before .loop .inv .2 in
-    (stands .standing .explored .order, stands-level (c .before .before .before .before .before .before .before .before .before .before .before .before .before .pre) stands)
+    let order = stands .standing .explored .order in
+    (omega arith, stands-level (c .before .before .before .before .before .before .before .before .before .before .before .before .before .pre) stands)
 
 enum-known-found : tie.Need-enum-known-found Inv-loop μ-loop
 enum-known-found c = search needs
