@@ -6,6 +6,7 @@ pub mod Turns
 pub mod Fill
 pub mod Counts
 pub mod Stores
+pub mod Answers
 pub mod Groups
 pub mod Tables
 pub mod Fields

@@ -8,6 +8,7 @@ use lib.Seq.{sets, sets-eq}
 use borrow.Author.Tests.{lt-ltb, le-ltb}
 use Rattle.tasks.specs.Table.{tableFault}
 use Rattle.tasks.specs.Number.{numberBytes}
+use Rattle.tasks.specs.Answers.{writingAnswer}
 use Rattle.tasks.specs.Sheet.{taskBytes, tasksBytes, sheetBytes, writeRefusal, writeAnswer, writeOut}
 use Rattle.tasks.specs.declared.writer.Writing.the-variants.{Written, Refused}
 use Rattle.tasks.specs.declared.table.Table.{Table}
@@ -43,16 +44,16 @@ module _ (t : Table) (out : List ℕ) where
   unfolding writeRefusal
   refusal-none e h = rw (e, le-ltb (length out) (length (sheetBytes t)) h)
 
-  refused : (r : ℕ) → 0 < r → writeRefusal t out ≡ r → (Refused r ≡ writeAnswer t out) × (out ≡ writeOut t out)
-  unfolding writeAnswer writeOut
+  refused : (r : ℕ) → 0 < r → writeRefusal t out ≡ r → (writingAnswer (Refused r) ≡ writeAnswer t out) × (out ≡ writeOut t out)
+  unfolding writingAnswer writeAnswer writeOut
   refused r h e = (rw (e, lt-ltb 0 r h), rw (e, lt-ltb 0 r h))
 
   -- a table that is not valid
-  pub write-fault : 0 < tableFault t → (Refused (tableFault t) ≡ writeAnswer t out) × (out ≡ writeOut t out)
+  pub write-fault : 0 < tableFault t → (writingAnswer (Refused (tableFault t)) ≡ writeAnswer t out) × (out ≡ writeOut t out)
   write-fault h = refused (tableFault t) h (refusal-fault h)
 
   -- an output that is too short
-  pub write-short : tableFault t ≡ 0 → length out < length (sheetBytes t) → (Refused 12 ≡ writeAnswer t out) × (out ≡ writeOut t out)
+  pub write-short : tableFault t ≡ 0 → length out < length (sheetBytes t) → (writingAnswer (Refused 12) ≡ writeAnswer t out) × (out ≡ writeOut t out)
   write-short e h = refused 12 (omega arith) (refusal-short e h)
 
   -- the sheet stands at the front of the output
@@ -62,8 +63,8 @@ module _ (t : Table) (out : List ℕ) where
   write-out e h = rw (refusal-none e h)
 
   pub write-done :
-      tableFault t ≡ 0 → length (sheetBytes t) ≤ length out → (Written (length (sheetBytes t)) ≡ writeAnswer t out) × (sets out 0 (sheetBytes t) ≡ writeOut t out)
-  unfolding writeAnswer
+      tableFault t ≡ 0 → length (sheetBytes t) ≤ length out → (writingAnswer (Written (length (sheetBytes t))) ≡ writeAnswer t out) × (sets out 0 (sheetBytes t) ≡ writeOut t out)
+  unfolding writingAnswer writeAnswer
   write-done e h =
       let z : 0 + length (sheetBytes t) ≡ length (sheetBytes t) = omega arith in
       (rw (refusal-none e h), sets-eq (sheetBytes t) out 0 (omega arith) ∙ ap (λ n. sheetBytes t ++ drop n out) z ∙ sym (write-out e h))

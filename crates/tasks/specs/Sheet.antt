@@ -2,7 +2,7 @@
 -- m, n, then C, D, P for each task, and the end. A sheet is judged in reading order: each number 1, 2, then its own rule; 7
 -- after a task's three numbers; 8 for bytes after the last task.
 use Prim.Native.Nat.{ℕ, zero, suc, _+_}
-use mathlib.Core.List.{List, [], _++_}
+use mathlib.Core.List.{List, [], _∷_, _++_}
 use mathlib.Core.Bool.{_||_}
 use lib.ListN.{length, getD, set, drop}
 use lib.Dec.{ltb}
@@ -15,8 +15,6 @@ use Rattle.tasks.specs.declared.table.Table.{Table}
 use Rattle.tasks.specs.declared.sheet.Reading.{Reading}
 use Rattle.tasks.specs.declared.sheet.Reading.the-variants as Reading
 use Rattle.tasks.specs.declared.sheet.Sheet.{Sheet}
-use Rattle.tasks.specs.declared.writer.Writing.{Writing}
-use Rattle.tasks.specs.declared.writer.Writing.the-variants as Writing
 use Rattle.tasks.specs.declared.sheet.Task.{Task}
 use Rattle.tasks.specs.declared.sheet.TaskRead.{TaskRead}
 use Rattle.tasks.specs.declared.sheet.TaskRead.the-variants as TaskRead
@@ -135,10 +133,9 @@ unfoldable pub writeRefusal : Table → List ℕ → ℕ
 writeRefusal t out =
     pick (ltb 0 (tableFault t)) (tableFault t) (pick (ltb (length out) (length (sheetBytes t))) 12 0)
 
--- what the writer answers: the sheet's length, or the refusal
-unfoldable pub writeAnswer : Table → List ℕ → Writing
-writeAnswer t out =
-    pick (ltb 0 (writeRefusal t out)) (Writing.Refused (writeRefusal t out)) (Writing.Written (length (sheetBytes t)))
+-- what the writer answers: the refusal, or 0 and the sheet's length
+unfoldable pub writeAnswer : Table → List ℕ → List ℕ
+writeAnswer t out = pick (ltb 0 (writeRefusal t out)) (writeRefusal t out ∷ []) (0 ∷ length (sheetBytes t) ∷ [])
 
 -- the output afterwards: the sheet at its front, later bytes as they were; a refusal leaves every byte
 unfoldable pub writeOut : Table → List ℕ → List ℕ
@@ -147,18 +144,17 @@ writeOut t out = pick (ltb 0 (writeRefusal t out)) out (sheetBytes t ++ drop (le
 -- ---- read and written again
 
 -- what is answered where the reading is accepted, or its refusal
-abbrev pub ifRead : Reading → Writing → Writing
+abbrev pub ifRead : Reading → List ℕ → List ℕ
 ifRead Reading.Accepted w = w
-ifRead (Reading.Refused r) w = Writing.Refused r
+ifRead (Reading.Refused r) w = r ∷ []
 
 abbrev pub outIfRead : Reading → List ℕ → List ℕ → List ℕ
 outIfRead Reading.Accepted new old = new
 outIfRead (Reading.Refused r) new old = old
 
 -- an accepted sheet read and written has the same bytes: the answer, and the output afterwards
-unfoldable pub copyAnswer : List ℕ → List ℕ → Writing
-copyAnswer s out =
-    ifRead (sheetOf s .answer) (pick (ltb (length out) (length s)) (Writing.Refused 12) (Writing.Written (length s)))
+unfoldable pub copyAnswer : List ℕ → List ℕ → List ℕ
+copyAnswer s out = ifRead (sheetOf s .answer) (pick (ltb (length out) (length s)) (12 ∷ []) (0 ∷ length s ∷ []))
 
 unfoldable pub copyOut : List ℕ → List ℕ → List ℕ
 copyOut s out = outIfRead (sheetOf s .answer) (pick (ltb (length out) (length s)) out (s ++ drop (length s) out)) out

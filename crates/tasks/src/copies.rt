@@ -7,11 +7,12 @@ use crate::table::Table;
 use crate::writer::Writing;
 use crate::writer::write_sheet;
 ghost use mathlib.Core.Path.{_≡_};
+ghost use Rattle.tasks.specs.Answers.{sheetAnswer, writingAnswer};
 ghost use Rattle.tasks.specs.Sheet.{copyAnswer, copyOut, tableAgain};
 
 // Reads a sheet and writes its table to the output: an accepted sheet's own bytes.
 pub fn copy_sheet(s: &[u8], out: &mut [u8]) -> Writing
-    ensures { λ r. ⌜ (r ≡ copyAnswer (now (s .entry)) (now (out .entry))) × (now (out .exit) ≡ copyOut (now (s .entry)) (now (out .entry))) ⌝ }
+    ensures { λ r. ⌜ (writingAnswer r ≡ copyAnswer (now (s .entry)) (now (out .entry))) × (now (out .exit) ≡ copyOut (now (s .entry)) (now (out .entry))) ⌝ }
 {
     let sheet = read_sheet(s);
     let answer = sheet.answer;
@@ -24,7 +25,7 @@ pub fn copy_sheet(s: &[u8], out: &mut [u8]) -> Writing
 
 // Writes a table's sheet and reads it: a valid table itself.
 pub fn copy_table(t: Table) -> Sheet
-    ensures { λ r. ⌜ r ≡ tableAgain t ⌝ }
+    ensures { λ r. ⌜ (sheetAnswer r ≡ sheetAnswer (tableAgain t)) × (r .table ≡ tableAgain t .table) ⌝ }
 {
     let mut out = [0u8; 52];
     match write_sheet(t, &mut out) {

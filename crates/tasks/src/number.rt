@@ -3,6 +3,7 @@ ghost use mathlib.Core.Path.{_≡_};
 ghost use Prim.Native.Nat.{_+_, _≤_, _<_};
 ghost use lib.ListN.{length};
 ghost use lib.Seq.{sets};
+ghost use Rattle.tasks.specs.Answers.{numberAnswer};
 ghost use Rattle.tasks.specs.Number.{numberBytes, numberAt};
 
 // What stands at a place of a sheet: a number with the place after it, or why there is none.
@@ -20,7 +21,7 @@ pub(crate) fn wide(x: u8) -> usize
 
 // The number at a place: one or two bytes.
 pub fn read_number(s: &[u8], at: usize) -> Number
-    ensures { λ r. ⌜ r ≡ numberAt (now (s .entry)) at ⌝ }
+    ensures { λ r. ⌜ numberAnswer r ≡ numberAnswer (numberAt (now (s .entry)) at) ⌝ }
 {
     if s.len() <= at {
         return Number::Refused(1);

@@ -5,6 +5,7 @@ use crate::table::Table;
 use crate::table::breaks;
 ghost use mathlib.Core.Path.{_≡_};
 ghost use Prim.Native.Nat.{_≤_, _<_};
+ghost use Rattle.tasks.specs.Answers.{sheetAnswer};
 ghost use Rattle.tasks.specs.Sheet.{fieldAt, taskOf, taskAt, withTask, emptyTable, refusedWith, fromTasks, fromCount, fromProcessors, fromPolicy, sheetOf};
 
 // What reading a sheet answers.
@@ -171,7 +172,7 @@ fn read_policy(s: &[u8], at: usize) -> Sheet
 
 // The table that a sheet gives, or the refusal of its first fault in reading order.
 pub fn read_sheet(s: &[u8]) -> Sheet
-    ensures { λ r. ⌜ r ≡ sheetOf (now (s .entry)) ⌝ }
+    ensures { λ r. ⌜ (sheetAnswer r ≡ sheetAnswer (sheetOf (now (s .entry)))) × (r .table ≡ sheetOf (now (s .entry)) .table) ⌝ }
 {
     match read_field(s, 0, 3, 3, 3) {
         Number::Refused(r) => refused(r),

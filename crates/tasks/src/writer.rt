@@ -6,6 +6,7 @@ ghost use mathlib.Core.Path.{_≡_};
 ghost use Prim.Native.Nat.{_+_, _*_, _≤_, _<_};
 ghost use lib.ListN.{length};
 ghost use lib.Seq.{sets};
+ghost use Rattle.tasks.specs.Answers.{writingAnswer};
 ghost use Rattle.tasks.specs.Sheet.{taskBytes, tasksBytes, sheetBytes, writeRefusal, writeAnswer, writeOut};
 
 // What writing a sheet answers: its length, or why it is not written.
@@ -78,7 +79,7 @@ fn put_sheet(out: &mut [u8], t: Table)
 
 // Writes the sheet of a table to the front of the output.
 pub fn write_sheet(t: Table, out: &mut [u8]) -> Writing
-    ensures { λ r. ⌜ (r ≡ writeAnswer t (now (out .entry))) × (now (out .exit) ≡ writeOut t (now (out .entry))) ⌝ }
+    ensures { λ r. ⌜ (writingAnswer r ≡ writeAnswer t (now (out .entry))) × (now (out .exit) ≡ writeOut t (now (out .entry))) ⌝ }
 {
     let fault = t.fault();
     if 0 < fault {

@@ -1,6 +1,7 @@
 -- The sheet is refused, or its table is replayed. Assumes nothing.
 use Rattle.search.specs.ReplayCall.{tableNumber, tableState, callNumber, callState}
 use Rattle.tasks.specs.declared.sheet.Sheet.{Sheet}
+use Rattle.tasks.proofs.Answers.{sheet-is}
 use mathlib.Core.Path.{sym, ap, _∙_}
 use borrow.Author.Needs.{needs}
 use Rattle.search.proofs.replays.ronchhek_replay.Statement.{statement}
@@ -24,7 +25,7 @@ replay-table-requires c κs = search needs
 returns : tie.Need-returns
 unfolding callNumber callState
 returns c =
-    let e = ap (λ (x : Sheet). x .answer) (sym (c .before .before .before .before .before .read-sheet .ensures)) ∙ c .before .before .answer .given .1 in
+    let e = ap (λ (x : Sheet). x .answer) (sym (sheet-is (c .before .before .before .before .before .read-sheet .ensures))) ∙ c .before .before .answer .given .1 in
     (c .refused-at .ensures ∙ rw e, rw e)
 
 same-length : tie.Need-same-length
@@ -34,7 +35,7 @@ returns-2 : tie.Need-returns-2
 unfolding callNumber callState
 returns-2 c =
     let a = c .before .before .before .before .before .before .before .before .before .before .before .args in
-    let r = c .before .before .before .before .before .before .before .read-sheet .ensures in
+    let r = sheet-is (c .before .before .before .before .before .before .before .read-sheet .ensures) in
     let e = ap (λ (x : Sheet). x .answer) (sym r) ∙ c .before .before .before .before .enum-told .given .1 in
     let t-is = ap (λ (x : Sheet). x .table) r in
     (rw e (c .before .before .replay-table .ensures .0 ∙ ap (λ t. tableNumber t (a .list .now) (a .state .now)) t-is), rw e (c .before .before .replay-table .ensures .1 ∙ ap (λ t. tableState t (a .list .now) (a .state .now)) t-is))

@@ -1,11 +1,12 @@
 -- Each exit of the reader is a case of `numberAt`, by the tests that led there. Assumes nothing.
 use Prim.Native.Nat.{ℕ, _+_, _-_, _*_, _≤_, _<_}
-use mathlib.Core.Path.{_≡_}
+use mathlib.Core.Path.{_≡_, ap}
 use mathlib.Core.List.{List}
 use native.Mathlib.Omega.{arith}
 use lib.ListN.{length, getD}
 use borrow.Author.Tests.{lt-ltb, le-ltb}
 use borrow.Author.Needs.{needs}
+use Rattle.tasks.specs.Answers.{numberAnswer}
 use Rattle.tasks.specs.Number.{numberIn, numberAt}
 use Rattle.tasks.specs.declared.number.Number.the-variants.{Value, Refused}
 use Rattle.tasks.proofs.number.read_number.Statement.{statement}
@@ -47,7 +48,7 @@ module _ (s : List ℕ) (at : ℕ) where
             (lt-ltb at (length s) here, le-ltb (getD s at 0) 0 (omega arith), le-ltb (getD s at 0) 128 high, lt-ltb (at + 1) (length s) there, le-ltb (getD s (at + 1) 0) 1 (omega arith), le-ltb (getD s (at + 1) 0) 128 h)
 
 returns : tie.Need-returns
-returns c = ended _ _ (c .if1 .taken)
+returns c = ap numberAnswer (ended _ _ (c .if1 .taken))
 
 shared-slice-read-wide : tie.Need-shared-slice-read-wide
 shared-slice-read-wide c = search needs
@@ -62,7 +63,7 @@ returns-2 : tie.Need-returns-2
 returns-2 c =
     let w = c .before .wide .ensures in
     let a = c .before .before .before .before .before .args in
-    rw (w .0) (one (a .s .now) (a .at) (c .before .before .before .if1 .left) (rw (w .0) at (c .if2 .taken)))
+    rw (w .0) (ap numberAnswer (one (a .s .now) (a .at) (c .before .before .before .if1 .left) (rw (w .0) at (c .if2 .taken))))
 
 add-next : tie.Need-add-next
 add-next c = search needs
@@ -71,7 +72,8 @@ returns-3 : tie.Need-returns-3
 returns-3 c =
     let w = c .before .before .wide .ensures in
     let a = c .before .before .before .before .before .before .args in
-    cut (a .s .now) (a .at) (c .before .before .before .before .if1 .left) (rw (w .0) at (c .before .if2 .left)) (c .if3 .taken)
+    ap numberAnswer
+    (cut (a .s .now) (a .at) (c .before .before .before .before .if1 .left) (rw (w .0) at (c .before .if2 .left)) (c .if3 .taken))
 
 shared-slice-read-wide-2 : tie.Need-shared-slice-read-wide-2
 shared-slice-read-wide-2 c = search needs
@@ -84,8 +86,9 @@ returns-4 c =
     let w = c .before .before .before .before .before .wide .ensures in
     let v = c .before .wide2 .ensures in
     let h = c .before .before .before .before .before .before .before in
-    zero-last (h .before .before .args .s .now) (h .before .before .args .at) (h .if1 .left)
-    (rw (w .0) at (c .before .before .before .before .if2 .left)) (c .before .before .before .if3 .left) (rw (v .0) at (c .if4 .taken))
+    ap numberAnswer
+    (zero-last (h .before .before .args .s .now) (h .before .before .args .at) (h .if1 .left)
+    (rw (w .0) at (c .before .before .before .before .if2 .left)) (c .before .before .before .if3 .left) (rw (v .0) at (c .if4 .taken)))
 
 mul-t13 : tie.Need-mul-t13
 mul-t13 c = search needs
@@ -102,16 +105,18 @@ returns-5 c =
     let v = c .before .before .wide2 .ensures in
     let h = c .before .before .before .before .before .before .before .before in
     rw (w .0, v .0)
+    (ap numberAnswer
     (two (h .before .before .args .s .now) (h .before .before .args .at) (h .if1 .left)
-    (rw (w .0) at (c .before .before .before .before .before .if2 .left)) (c .before .before .before .before .if3 .left) (rw (v .0) at (c .before .if4 .left)) (rw (v .0) at (c .if5 .taken)))
+    (rw (w .0) at (c .before .before .before .before .before .if2 .left)) (c .before .before .before .before .if3 .left) (rw (v .0) at (c .before .if4 .left)) (rw (v .0) at (c .if5 .taken))))
 
 returns-6 : tie.Need-returns-6
 returns-6 c =
     let w = c .before .before .before .before .before .before .wide .ensures in
     let v = c .before .before .wide2 .ensures in
     let h = c .before .before .before .before .before .before .before .before in
-    third (h .before .before .args .s .now) (h .before .before .args .at) (h .if1 .left)
-    (rw (w .0) at (c .before .before .before .before .before .if2 .left)) (c .before .before .before .before .if3 .left) (rw (v .0) at (c .if5 .left))
+    ap numberAnswer
+    (third (h .before .before .args .s .now) (h .before .before .args .at) (h .if1 .left)
+    (rw (w .0) at (c .before .before .before .before .before .if2 .left)) (c .before .before .before .before .if3 .left) (rw (v .0) at (c .if5 .left)))
 
 pub read-number-spec : {M : Type 1} → statement M
 read-number-spec =

@@ -1,5 +1,6 @@
 -- The number is refused, breaks its rule, or passes it. Assumes nothing.
 use Rattle.tasks.specs.Sheet.{fieldAt}
+use Rattle.tasks.proofs.Answers.{number-is}
 use mathlib.Core.Path.{sym, _∙_}
 use borrow.Author.Needs.{needs}
 use Rattle.tasks.proofs.sheet.read_field.Statement.{statement}
@@ -16,15 +17,15 @@ enum-known-v c = search needs
 
 returns : tie.Need-returns
 unfolding fieldAt
-returns c = let e = sym (c .before .before .before .before .read-number .ensures) ∙ c .before .before .v .given .1 in rw (e, c .if1 .taken)
+returns c = let e = sym (number-is (c .before .before .before .before .read-number .ensures)) ∙ c .before .before .v .given .1 in rw (e, c .if1 .taken)
 
 returns-2 : tie.Need-returns-2
 unfolding fieldAt
-returns-2 c = let e = sym (c .before .before .before .read-number .ensures) ∙ c .before .r .given .1 in rw e
+returns-2 c = let e = sym (number-is (c .before .before .before .read-number .ensures)) ∙ c .before .r .given .1 in rw e
 
 returns-3 : tie.Need-returns-3
 unfolding fieldAt
-returns-3 c = let e = sym (c .before .before .before .before .read-number .ensures) ∙ c .before .before .v .given .1 in rw (e, c .if1 .left)
+returns-3 c = let e = sym (number-is (c .before .before .before .before .read-number .ensures)) ∙ c .before .before .v .given .1 in rw (e, c .if1 .left)
 
 pub read-field-spec : {M : Type 1} → statement M
 read-field-spec =

@@ -1,5 +1,6 @@
 -- The field count is refused, or the policy is read next. Assumes nothing.
 use Rattle.tasks.specs.Sheet.{sheetOf}
+use Rattle.tasks.proofs.Answers.{sheet-told}
 use mathlib.Core.Path.{sym, _∙_}
 use borrow.Author.Needs.{needs}
 use Rattle.tasks.proofs.sheet.read_sheet.Statement.{statement}
@@ -22,11 +23,11 @@ read-policy-requires c κs = search needs
 
 returns : tie.Need-returns
 unfolding sheetOf
-returns c = let e = sym (c .before .before .before .before .read-field .ensures) ∙ c .before .before .r .given .1 in rw e (c .refused .ensures)
+returns c = let e = sym (c .before .before .before .before .read-field .ensures) ∙ c .before .before .r .given .1 in sheet-told (rw e (c .refused .ensures))
 
 returns-2 : tie.Need-returns-2
 unfolding sheetOf
-returns-2 c = let e = sym (c .before .before .before .before .read-field .ensures) ∙ c .before .before .next .given .1 in rw e (c .read-policy .ensures)
+returns-2 c = let e = sym (c .before .before .before .before .read-field .ensures) ∙ c .before .before .next .given .1 in sheet-told (rw e (c .read-policy .ensures))
 
 pub read-sheet-spec : {M : Type 1} → statement M
 read-sheet-spec =

@@ -1,5 +1,6 @@
 -- Three numbers, one after the other; the first that is refused ends the task. Assumes nothing.
 use Rattle.tasks.specs.Sheet.{taskAt}
+use Rattle.tasks.proofs.Answers.{number-is}
 use mathlib.Core.Path.{sym, _∙_}
 use borrow.Author.Needs.{needs}
 use Rattle.tasks.proofs.sheet.read_task.Statement.{statement}
@@ -37,29 +38,29 @@ task-of-requires c κs = search needs
 
 returns : tie.Need-returns
 unfolding taskAt
-returns c = let e = sym (c .before .before .before .read-number .ensures) ∙ c .before .r .given .1 in rw e
+returns c = let e = sym (number-is (c .before .before .before .read-number .ensures)) ∙ c .before .r .given .1 in rw e
 
 returns-2 : tie.Need-returns-2
 unfolding taskAt
 returns-2 c =
-    let e = sym (c .before .before .before .before .before .before .before .read-number .ensures) ∙ c .before .before .before .before .before .work .given .1 in
-    let f = sym (c .before .before .before .read-number2 .ensures) ∙ c .before .r2 .given .1 in
+    let e = sym (number-is (c .before .before .before .before .before .before .before .read-number .ensures)) ∙ c .before .before .before .before .before .work .given .1 in
+    let f = sym (number-is (c .before .before .before .read-number2 .ensures)) ∙ c .before .r2 .given .1 in
     rw (e, f)
 
 returns-3 : tie.Need-returns-3
 unfolding taskAt
 returns-3 c =
-    let e = sym (c .before .before .before .before .before .before .before .before .before .before .before .read-number .ensures) ∙ c .before .before .before .before .before .before .before .before .before .work .given .1 in
-    let f = sym (c .before .before .before .before .before .before .before .read-number2 .ensures) ∙ c .before .before .before .before .before .deadline .given .1 in
-    let g = sym (c .before .before .before .read-number3 .ensures) ∙ c .before .r3 .given .1 in
+    let e = sym (number-is (c .before .before .before .before .before .before .before .before .before .before .before .read-number .ensures)) ∙ c .before .before .before .before .before .before .before .before .before .work .given .1 in
+    let f = sym (number-is (c .before .before .before .before .before .before .before .read-number2 .ensures)) ∙ c .before .before .before .before .before .deadline .given .1 in
+    let g = sym (number-is (c .before .before .before .read-number3 .ensures)) ∙ c .before .r3 .given .1 in
     rw (e, f, g)
 
 returns-4 : tie.Need-returns-4
 unfolding taskAt
 returns-4 c =
-    let e = sym (c .before .before .before .before .before .before .before .before .before .before .before .before .read-number .ensures) ∙ c .before .before .before .before .before .before .before .before .before .before .work .given .1 in
-    let f = sym (c .before .before .before .before .before .before .before .before .read-number2 .ensures) ∙ c .before .before .before .before .before .before .deadline .given .1 in
-    let g = sym (c .before .before .before .before .read-number3 .ensures) ∙ c .before .before .gap .given .1 in
+    let e = sym (number-is (c .before .before .before .before .before .before .before .before .before .before .before .before .read-number .ensures)) ∙ c .before .before .before .before .before .before .before .before .before .before .work .given .1 in
+    let f = sym (number-is (c .before .before .before .before .before .before .before .before .read-number2 .ensures)) ∙ c .before .before .before .before .before .before .deadline .given .1 in
+    let g = sym (number-is (c .before .before .before .before .read-number3 .ensures)) ∙ c .before .before .gap .given .1 in
     rw (e, f, g) (c .task-of .ensures)
 
 pub read-task-spec : {M : Type 1} → statement M
