@@ -14,7 +14,7 @@ use Rattle.tasks.specs.declared.sheet.Sheet.{Sheet}
 use Rattle.tasks.specs.declared.writer.Writing.{Writing}
 use Rattle.tasks.specs.declared.writer.Writing.the-variants as Writing
 
--- a list of one number is no longer list
+-- a list of one number is not one of more
 one-more : {X : Type 0} {r a b : ℕ} {l : List ℕ} → r ∷ [] ≡ a ∷ b ∷ l → X
 one-more {X} {r} {a} {b} {l} e = absurd (let n = ap length e in omega arith)
 

@@ -12,8 +12,8 @@ use lib.Seq.{drop-cons}
 use borrow.Author.Tests.{lt-ltb, le-ltb}
 use Rattle.tasks.specs.Table.{tableFault}
 use Rattle.tasks.specs.State.{start, improper}
-use Rattle.tasks.specs.Tick.{illegal, after, missed, tickNumber, ticked}
-use Rattle.tasks.specs.Replay.{next, played, replayed, outcomeTick, replayNumber, replayTick}
+use Rattle.tasks.specs.Tick.{illegal, after, missed, refusal, tickNumber, ticked}
+use Rattle.tasks.specs.Replay.{next, played, replayed, playRefusal, replayRefusal, outcomeTick, replayNumber, replayTick}
 use Rattle.tasks.specs.declared.state.State.{State}
 use Rattle.tasks.specs.declared.table.Table.{Table}
 use Rattle.tasks.specs.declared.tick.TickAnswer.{TickAnswer}
@@ -80,8 +80,24 @@ module _ (t : Table) where
   unfolding replayed
   replayed-played l h = pick-no _ (le-ltb _ _ h) refl
 
-  pub replay-names : (l : List ℕ) {r : Replayed} → r ≡ replayed t l → (r ≡ replayed t l) × (replayTick (r .answer) ≤ length l)
-  replay-names l e = (e, rw e (replayed-tick l))
+  -- a play is refused with the first refusal that it meets before a miss
+  played-refusal : (s : State) (k : ℕ) (l : List ℕ) → replayNumber (played t s k l .answer) ≡ playRefusal t s l
+  unfolding played playRefusal ticked replayNumber
+  played-refusal s k [] = refl
+  played-refusal s k (mask ∷ masks) =
+      by-bool (ltb 0 (refusal t s mask)) (λ e. rw e)
+      (λ e. by-bool (missed t (after t s mask)) (λ m. rw (e, m)) (λ m. rw (e, m) (played-refusal (after t s mask) (k + 1) masks)))
+
+  -- LAW: a replay is refused as the table and the play say
+  pub replayed-refusal : (l : List ℕ) → replayNumber (replayed t l .answer) ≡ replayRefusal t l
+  unfolding replayed replayRefusal replayNumber
+  replayed-refusal l =
+      by-bool (ltb 0 (tableFault t)) (λ e. rw e) (λ e. rw e (played-refusal start 0 l))
+
+  pub replay-names :
+      (l : List ℕ) {r : Replayed} → r ≡ replayed t l
+      → (r ≡ replayed t l) × (replayTick (r .answer) ≤ length l) × (replayNumber (r .answer) ≡ replayRefusal t l)
+  replay-names l e = (e, rw e (replayed-tick l), rw e (replayed-refusal l))
 
   -- ---- the refusals of a play
 

@@ -20,6 +20,7 @@ unfoldable pub readingAnswer : Reading → Table → List ℕ
 readingAnswer Reading.Accepted t = 0 ∷ t .policy ∷ t .m ∷ t .n ∷ (t .work ++ (t .deadline ++ t .gap))
 readingAnswer (Reading.Refused r) t = r ∷ []
 
+-- the answer and the table as one
 unfoldable pub sheetAnswer : Sheet → List ℕ
 sheetAnswer s = readingAnswer (s .answer) (s .table)
 

@@ -5,7 +5,7 @@ use lib.Dec.{ltb}
 use Rattle.tasks.specs.Lists.{pick}
 use Rattle.tasks.specs.Table.{tableFault}
 use Rattle.tasks.specs.State.{start}
-use Rattle.tasks.specs.Tick.{ticked}
+use Rattle.tasks.specs.Tick.{after, missed, refusal, ticked}
 use Rattle.tasks.specs.declared.state.State.{State}
 use Rattle.tasks.specs.declared.table.Table.{Table}
 use Rattle.tasks.specs.declared.tick.TickAnswer.{TickAnswer}
@@ -32,6 +32,20 @@ played t s k (mask ∷ masks) =
 unfoldable pub replayed : Table → List ℕ → Replayed
 replayed t masks =
     pick (ltb 0 (tableFault t)) (record { answer = Refused (tableFault t) 0; state = start }) (played t start 0 masks)
+
+-- ---- the refusal
+
+-- why the masks played from state s are refused: the refusal of the first tick that has one, and 0 where none has or a miss
+-- comes before it
+unfoldable pub playRefusal : Table → State → List ℕ → ℕ
+playRefusal t s [] = 0
+playRefusal t s (mask ∷ masks) =
+    pick (ltb 0 (refusal t s mask)) (refusal t s mask)
+    (pick (missed t (after t s mask)) 0 (playRefusal t (after t s mask) masks))
+
+-- why a list is refused: the table's fault, else what the play from the start state meets, and 0 where the list is played
+unfoldable pub replayRefusal : Table → List ℕ → ℕ
+replayRefusal t masks = pick (ltb 0 (tableFault t)) (tableFault t) (playRefusal t start masks)
 
 -- ---- the figures of each answer
 
