@@ -1,7 +1,7 @@
 // Sheet numbers: groups of seven bits, low group first, the top bit of a byte set when another follows.
 ghost use mathlib.Core.Path.{_≡_};
 ghost use Prim.Native.Nat.{_+_, _≤_, _<_};
-ghost use lib.ListN.{length};
+ghost use lib.ListN.{length, set};
 ghost use lib.Seq.{sets};
 ghost use Rattle.tasks.specs.Answers.{numberAnswer};
 ghost use Rattle.tasks.specs.Number.{numberBytes, numberAt};
@@ -57,6 +57,14 @@ pub(crate) fn number_len(x: u8) -> usize
     n
 }
 
+// Writes a byte at a place.
+fn put_byte(out: &mut [u8], at: usize, x: u8)
+    requires { ⌜ at < length (now out) ⌝ }
+    ensures { λ _. ⌜ now (out .exit) ≡ set (now (out .entry)) at x ⌝ }
+{
+    out[at] = x;
+}
+
 // Writes a number at a place, and answers the place after it.
 pub(crate) fn put_number(out: &mut [u8], at: usize, x: u8) -> usize
     requires { ⌜ at + length (numberBytes x) ≤ length (now out) ⌝ }
@@ -65,10 +73,10 @@ pub(crate) fn put_number(out: &mut [u8], at: usize, x: u8) -> usize
     let mut rest = x;
     let mut i = at;
     while 128 <= rest {
-        out[i] = rest % 128 + 128;
+        put_byte(out, i, rest % 128 + 128);
         rest = rest / 128;
         i += 1;
     }
-    out[i] = rest;
+    put_byte(out, i, rest);
     i + 1
 }

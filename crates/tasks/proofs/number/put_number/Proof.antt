@@ -27,38 +27,45 @@ low-stored : (out : List ℕ) (i x : ℕ) → x < 128 → sets out i (numberByte
 low-stored out i x h = ap (sets out i) (bytes-low x h)
 
 loop-holds : tie.Need-loop-holds Inv-loop μ-loop
-loop-holds c = (refl, refl, refl, c .pre)
+loop-holds c = (refl, refl, refl, c .before .pre)
 
-add-out : tie.Need-add-out Inv-loop μ-loop
-add-out c = search needs
+add-put-byte : tie.Need-add-put-byte Inv-loop μ-loop
+add-put-byte c = search needs
 
-slice-write-out : tie.Need-slice-write-out Inv-loop μ-loop
-slice-write-out c = omega (arith, ap length (bytes-high (c .before .loop .rest) (c .loop-test .taken)))
+put-byte-requires : tie.Need-put-byte-requires Inv-loop μ-loop
+put-byte-requires c κs = omega (arith, ap length (bytes-high (c .before .before .loop .rest) (c .before .loop-test .taken)))
 
 add-i : tie.Need-add-i Inv-loop μ-loop
-add-i c = omega (arith, ap length (bytes-high (c .before .loop .rest) (c .loop-test .taken)))
+add-i c =
+    let h = c .before .before .before .before .before .loop in
+    omega (arith, ap length (bytes-high (h .rest) (c .before .before .before .before .loop-test .taken)))
 
 loop-less : tie.Need-loop-less Inv-loop μ-loop
 loop-less c = omega arith
 
 loop-again : tie.Need-loop-again Inv-loop μ-loop
 loop-again c =
-    let h = c .before .loop in
-    (sym (high-stored (h .out) (h .i) (h .rest) (c .loop-test .taken)) ∙ h .inv .0, omega (arith, ap length (bytes-high (h .rest) (c .loop-test .taken))), length-set (h .out) (h .i) _ ∙ h .inv .2, h .inv .3)
+    let h = c .before .before .before .before .before .loop in
+    let t = c .before .before .before .before .loop-test .taken in
+    let e = c .before .before .put-byte .ensures in
+    (ap (λ o. sets o (h .i + 1) (numberBytes (h .rest / 128))) e ∙ sym (high-stored (h .out) (h .i) (h .rest) t) ∙ h .inv .0, omega (arith, ap length (bytes-high (h .rest) t)), ap length e ∙ length-set (h .out) (h .i) _ ∙ h .inv .2, h .inv .3)
 
-slice-write-out-2 : tie.Need-slice-write-out-2 Inv-loop μ-loop
-slice-write-out-2 c = omega (arith, ap length (bytes-low (c .before .loop .rest) (c .loop-test .left)))
+put-byte-requires-2 : tie.Need-put-byte-requires-2 Inv-loop μ-loop
+put-byte-requires-2 c κs = omega (arith, ap length (bytes-low (c .before .before .loop .rest) (c .before .loop-test .left)))
 
 add-result : tie.Need-add-result Inv-loop μ-loop
-add-result c = omega (arith, ap length (bytes-low (c .before .loop .rest) (c .loop-test .left)))
+add-result c =
+    let h = c .before .before .before .before .before .loop in
+    omega (arith, ap length (bytes-low (h .rest) (c .before .before .before .before .loop-test .left)))
 
 same-length : tie.Need-same-length Inv-loop μ-loop
-same-length c = simp length-set (omega arith)
+same-length c = search needs
 
 returns : tie.Need-returns Inv-loop μ-loop
 returns c =
-    let h = c .before .loop in
-    (omega (arith, ap length (bytes-low (h .rest) (c .loop-test .left))), sym (low-stored (h .out) (h .i) (h .rest) (c .loop-test .left)) ∙ h .inv .0)
+    let h = c .before .before .before .before .before .loop in
+    let t = c .before .before .before .before .loop-test .left in
+    (omega (arith, ap length (bytes-low (h .rest) t)), c .before .before .put-byte2 .ensures ∙ sym (low-stored (h .out) (h .i) (h .rest) t) ∙ h .inv .0)
 
 pub put-number-spec : {M : Type 1} → statement M
 put-number-spec =
@@ -67,12 +74,12 @@ put-number-spec =
     Inv-loop
     μ-loop
     loop-holds
-    add-out
-    slice-write-out
+    add-put-byte
+    put-byte-requires
     add-i
     loop-less
     loop-again
-    slice-write-out-2
+    put-byte-requires-2
     add-result
     same-length
     returns)
