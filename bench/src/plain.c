@@ -1,5 +1,6 @@
-/* The library's design in plain scalar C: chains through the slots' spare bytes, 262,144 heads, legal masks only, and the
-   full mask of a slot tried first in the hunt. Built a second time with COUNT for the ticks of each pass. */
+/* The library's design in plain scalar C: chains through the slots' spare bytes, 262,144 heads, the library's hash, legal masks
+   only, and the full mask of a slot tried first in the hunt. The tick goes task by task, and the heads have no tags. Built a second
+   time with COUNT for the ticks of each pass. */
 #include "engine.h"
 
 #include <stdbool.h>
@@ -111,11 +112,10 @@ static Bytes bytes_of(const State *s)
 
 static size_t bucket(const Bytes *b)
 {
-    uint64_t low, high;
-    memcpy(&low, b->b, 8);
-    memcpy(&high, b->b + 8, 8);
-    uint64_t h = (low ^ high * 0x9E3779B97F4A7C15u) * 0xD6E8FEB86659FD93u;
-    return (h >> 32) % HEADS;
+    uint32_t w[4];
+    memcpy(w, b->b, 16);
+    uint64_t x = (uint64_t)625341585 * w[0] + (uint64_t)1013904223 * w[1] + (uint64_t)668265261 * w[2] + (uint64_t)374761393 * w[3];
+    return ((x >> 32) + (uint32_t)x) % HEADS;
 }
 
 static uint32_t link_of(const uint8_t *work, size_t slot)

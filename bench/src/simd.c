@@ -89,7 +89,7 @@ static inline uint32_t mixed(__m128i s)
 {
     uint64_t low = (uint64_t)_mm_cvtsi128_si64(s), high = (uint64_t)_mm_extract_epi64(s, 1);
     uint64_t h = (low ^ high * 0x9E3779B97F4A7C15u) * 0xD6E8FEB86659FD93u;
-    return (uint32_t)(h >> 32);
+    return (uint32_t)((h ^ h >> 32) * 0x9E3779B97F4A7C15u >> 32);
 }
 
 static inline __m128i slot_state(const uint8_t *work, size_t slot)

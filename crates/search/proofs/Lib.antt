@@ -2,9 +2,12 @@
 pub mod SlotLaws
 pub mod ClearLaws
 pub mod KeyLaws
+pub mod WordLaws
+pub mod TagLaws
 pub mod IndexLaws
 pub mod MaskTest
 pub mod MaskLaws
+pub mod TickerLaws
 pub mod SystemLaws
 pub mod OutcomeLaws
 pub mod HuntLaws

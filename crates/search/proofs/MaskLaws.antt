@@ -1,20 +1,25 @@
 -- The walk through the submasks of a byte visits each of them once, in increasing order; they are the legal masks. Assumes nothing.
 use Prim.Native.Nat.{ℕ, zero, suc, _+_, _-_, _*_, _/_, _%_, _^_, _≤_, _<_}
 use mathlib.Core.Path.{_≡_, refl, sym, ap, _∙_}
-use mathlib.Core.Bool.{Bool, true, false, not, _||_}
+use mathlib.Core.List.{List}
+use mathlib.Core.Bool.{Bool, true, false, not, _&&_, _||_}
 use native.Mathlib.Omega.{arith}
 use native.Mathlib.Decide.{ℕ-discrete}
 use lib.Dec.{eqb, ltb}
 use lib.ListN.{getD}
-use borrow.Author.Tests.{eqb-true, eq-eqb, ne-eqb, ltb-true, lt-ltb}
-use Rattle.tasks.specs.Lists.{pick}
+use borrow.Author.Tests.{eqb-true, eq-eqb, ne-eqb, ltb-true, lt-ltb, le-ltb}
+use Rattle.tasks.specs.Lists.{pick, byteOf}
 use Rattle.tasks.specs.Tick.{bit, illegal}
+use Rattle.tasks.specs.Words.{stateOf}
+use Rattle.tasks.specs.Ticker.{tickerOf, freeBy}
 use Rattle.tasks.specs.declared.state.State.{State}
 use Rattle.tasks.specs.declared.table.Table.{Table}
 use Rattle.tasks.proofs.Bools.{clash, and-left, and-right, both}
+use Rattle.tasks.proofs.Fill.{eight-at}
+use Rattle.tasks.proofs.InWords.{gap-word}
 use Rattle.tasks.proofs.Legal.{legal-bit, bits-legal}
 use Rattle.tasks.proofs.More.{Full}
-use Rattle.search.specs.Masks.{all, byteOf, releasable, freeMask, submask, next, follows}
+use Rattle.search.specs.Masks.{all, releasable, freeMask, submask, next, follows}
 use Rattle.search.proofs.MaskTest.{same, checks, every}
 
 same-is : (a b : Bool) → same a b ≡ true → a ≡ b
@@ -213,3 +218,31 @@ module _ (t : Table) (s : State) where
   legal-submask m e =
       all-of 8 (λ i. not (bit m i) || bit (freeMask t s) i)
       (λ i h. or-not (bit m i) (bit (freeMask t s) i) (λ b. free-bit i h ∙ may i (legal-bit t s m i h e b)))
+
+-- ---- the mask of the words
+
+-- the byte of bits that are the same
+byte-same : (f g : ℕ → Bool) → ((i : ℕ) → i < 8 → f i ≡ g i) → byteOf f ≡ byteOf g
+unfolding byteOf
+byte-same f g h = rw (h 0 (omega arith), h 1 (omega arith), h 2 (omega arith), h 3 (omega arith), h 4 (omega arith), h 5 (omega arith), h 6 (omega arith), h 7 (omega arith))
+
+-- a word is below its limit where its task is one of the table's and its p is 0
+below-limit : (b : Bool) (w : ℕ) → ltb w (pick b 256 0) ≡ b && eqb (w / 256) 0
+below-limit true w =
+    elim (ℕ-discrete (w / 256) 0) [
+      | yes q ↦ lt-ltb w 256 (omega arith) ∙ sym (eq-eqb (w / 256) 0 q)
+      | no q ↦ le-ltb w 256 (omega arith) ∙ sym (ne-eqb (w / 256) 0 q)
+    ]
+below-limit false w = le-ltb w 0 (omega arith)
+
+limit-releasable : (t : Table) (v : List ℕ) (i : ℕ) → i < 8 → ltb (getD v i 0) (getD (tickerOf t .limit) i 0) ≡ releasable t (stateOf v) i
+unfolding tickerOf releasable
+limit-releasable t v i h =
+    ap (ltb (getD v i 0)) (eight-at 0 (λ i. pick (ltb i (t .n)) 256 0) i h)
+    ∙ below-limit (ltb i (t .n)) (getD v i 0)
+    ∙ ap (λ p. ltb i (t .n) && eqb p 0) (sym (gap-word v i h))
+
+-- LAW: the ticker's mask is that of the state in the words
+pub free-by : (t : Table) (v : List ℕ) → freeBy (tickerOf t) v ≡ freeMask t (stateOf v)
+unfolding freeBy freeMask
+free-by t v = byte-same (λ i. ltb (getD v i 0) (getD (tickerOf t .limit) i 0)) (releasable t (stateOf v)) (limit-releasable t v)

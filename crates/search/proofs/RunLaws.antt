@@ -10,7 +10,7 @@ use Rattle.tasks.specs.declared.state.State.{State}
 use Rattle.tasks.specs.declared.table.Table.{Table}
 use Rattle.levels.specs.Verdict.Answer.{Unsafe, Safe, NoRoom}
 use Rattle.levels.specs.Levels.{trail, Before, Hunting}
-use Rattle.levels.proofs.Index.{index-start}
+use Rattle.search.proofs.IndexLaws.{indexed-start}
 use Rattle.levels.proofs.Replay.{reached}
 use Rattle.levels.proofs.Slots.{level-stored, miss-complete, filled-stored, safe-complete}
 use Rattle.levels.proofs.Steps.{search-start, search-miss, search-open, search-next, search-safe}
@@ -25,7 +25,7 @@ use Rattle.search.proofs.TraceLaws.{traced-front, traced-rest}
 module _ {t : Table} {w trace heads : List ℕ} {k : ℕ} (spaces : Spaces t w trace heads k) where
   -- no slot is filled yet
   pub none-indexed : Indexed w heads 0
-  none-indexed = record { some = spaces .buckets; few = omega arith; fits = omega arith; index = index-start (spaces .empty) }
+  none-indexed = indexed-start w heads (spaces .buckets) (spaces .empty)
 
   -- slot 0 holds the start state: level 0
   pub first-stands : {w₀ heads₀ : List ℕ} {s : State} → s ≡ start → Pushed w w₀ heads heads₀ 0 s 0 0 → Stands t w₀ w₀ heads₀ k 0 1 0

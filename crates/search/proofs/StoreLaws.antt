@@ -11,8 +11,12 @@ use lib.ListN.{drop}
 use lib.Seq.{drop-drop}
 use Rattle.tasks.specs.State.{improper}
 use Rattle.tasks.specs.Tick.{after, missed}
+use Rattle.tasks.specs.Words.{stateOf}
+use Rattle.tasks.specs.Ticker.{tickedBy}
 use Rattle.tasks.specs.declared.state.State.{State}
 use Rattle.tasks.specs.declared.table.Table.{Table}
+use Rattle.tasks.specs.declared.ticker.Prepared.{Prepared}
+use Rattle.tasks.specs.declared.ticker.Ticker.{Ticker}
 use Rattle.tasks.proofs.Bools.{by-bool}
 use Rattle.levels.specs.Verdict.Tick.{Next, Missed, Refused}
 use Rattle.levels.specs.Levels.{Row}
@@ -163,6 +167,12 @@ module _ {t : Table} {w heads : List ℕ} {k n i : ℕ} (ready : RowReady t w he
         others q =
             rw (← x .here)
             (⊎-elim (λ l. inl (omega (arith, l .0), rw is (l .1))) (λ r. inr r) (legal-or-refused t (ready .valid) s proper q))
+
+-- a row on the way, whose free mask and ticks the table made ready gives
+pub record RowBy (t : Table) (ticker : Ticker) (state : Prepared) (w w′ heads′ : List ℕ) (k n n′ i free m : ℕ) : Type 0 where
+  pub is : free ≡ freeMask t (stateAt w i)
+  pub ticks : (mask : ℕ) → stateOf (tickedBy ticker state mask) ≡ after t (stateAt w i) mask
+  pub row : RowTo t w w′ heads′ (stateAt w i) k n n′ i free m
 
 -- ---- a level
 

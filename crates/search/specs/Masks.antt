@@ -4,7 +4,7 @@ use mathlib.Core.Bool.{Bool, true, not, _&&_, _||_}
 use lib.Dec.{eqb, ltb}
 use lib.ListN.{getD}
 use lib.Bits.{bitAnd}
-use Rattle.tasks.specs.Lists.{pick}
+use Rattle.tasks.specs.Lists.{pick, byteOf}
 use Rattle.tasks.specs.Tick.{bit}
 use Rattle.tasks.specs.declared.state.State.{State}
 use Rattle.tasks.specs.declared.table.Table.{Table}
@@ -13,10 +13,6 @@ use Rattle.tasks.specs.declared.table.Table.{Table}
 unfoldable pub all : ℕ → (ℕ → Bool) → Bool
 all zero p = true
 all (suc n) p = p n && all n p
-
--- the byte of eight bits
-unfoldable pub byteOf : (ℕ → Bool) → ℕ
-byteOf f = pick (f 0) 1 0 + pick (f 1) 2 0 + (pick (f 2) 4 0 + pick (f 3) 8 0) + (pick (f 4) 16 0 + pick (f 5) 32 0) + (pick (f 6) 64 0 + pick (f 7) 128 0)
 
 -- task i of the table, counted from 0, may be released
 unfoldable pub releasable : Table → State → ℕ → Bool

@@ -7,6 +7,7 @@ use lib.Bits.{bitAnd}
 use lib.Dec.{eqb}
 use lib.ListN.{length, getD, take, drop, set}
 use Rattle.tasks.specs.Lists.{eight}
+use Rattle.tasks.specs.Tick.{bit}
 use Rattle.tasks.specs.declared.state.State.{State}
 use Rattle.levels.specs.Index.{Index}
 use Rattle.levels.specs.Verdict.{Holds}
@@ -105,12 +106,27 @@ bucketFor size k = bitAnd (mixed k / 4294967296 + mixed k % 4294967296) (size - 
 unfoldable pub bucketOf : ℕ → State → ℕ
 bucketOf size s = bucketFor size (keyOf s)
 
--- the first n slots of w are indexed by heads and by their links
+-- one of twelve tags
+unfoldable pub tagFor : Key → ℕ
+tagFor k = mixed k / 262144 % 12
+
+unfoldable pub tagOf : State → ℕ
+tagOf s = tagFor (keyOf s)
+
+-- a bucket's head: its newest slot in the low 20 bits, and above them a bit for each tag that a slot of its chain has
+unfoldable pub newest : List ℕ → ℕ → ℕ
+newest heads b = getD heads b 0 % 1048576
+
+unfoldable pub tagsIn : List ℕ → ℕ → ℕ
+tagsIn heads b = getD heads b 0 / 1048576
+
+-- the first n slots of w are indexed by heads and by their links, and each has its tag in its bucket's head
 pub record Indexed (w heads : List ℕ) (n : ℕ) : Type 0 where
   pub some : 0 < length heads
   pub few : n ≤ 1000000
   pub fits : 24 * n ≤ length w
-  pub index : Index (bucketOf (length heads)) (stateAt w) (λ b. getD heads b 0) (linkAt w) n
+  pub index : Index (bucketOf (length heads)) (stateAt w) (newest heads) (linkAt w) n
+  pub tagged : (j : ℕ) → j < n → bit (tagsIn heads (bucketOf (length heads) (stateAt w j))) (tagOf (stateAt w j)) ≡ true
 
 -- true where one of the first n slots holds s, false where none does
 abbrev pub HeldIs : List ℕ → ℕ → State → Bool → Type 0

@@ -1,12 +1,13 @@
 // The hunt through a level's slots and their legal masks, which stops on its first miss.
 ghost use mathlib.Core.Path.{_≡_};
 ghost use Prim.Native.Nat.{_≤_};
+ghost use Rattle.tasks.specs.Ticker.{tickerOf};
 ghost use Rattle.search.specs.Keeping.{Level, Hunted};
 use crate::masks::follow;
-use crate::masks::free_mask;
-use crate::slots::load;
-use tasks::State;
+use crate::slots::words_at;
 use tasks::Table;
+use tasks::Ticker;
+use tasks::misses;
 
 // What a hunt finds: a slot and a mask that misses from it.
 pub(crate) enum HuntAnswer {
@@ -16,8 +17,8 @@ pub(crate) enum HuntAnswer {
 
 // Tries the legal masks of every slot of the level for a miss. Where one of them misses, so does the mask of all tasks that
 // may be released: it is tried first, and the others only where it misses.
-pub(crate) fn hunt(t: Table, work: &[u8], lo: usize, hi: usize) -> HuntAnswer
-    requires { ⌜ (lo ≤ hi) × Level t (now work) hi ⌝ }
+pub(crate) fn hunt(t: Table, ticker: Ticker, work: &[u8], lo: usize, hi: usize) -> HuntAnswer
+    requires { ⌜ (ticker ≡ tickerOf t) × (lo ≤ hi) × Level t (now work) hi ⌝ }
     ensures { λ r. ⌜ Hunted t (now (work .entry)) lo hi r ⌝ }
 {
     let mut i = lo;
@@ -25,15 +26,16 @@ pub(crate) fn hunt(t: Table, work: &[u8], lo: usize, hi: usize) -> HuntAnswer
         if i == hi {
             break 'hunt HuntAnswer::Clear;
         }
-        let s = load(work, i);
-        let free = free_mask(t, s);
-        let full = s.advance(t, free);
-        if full.missed(t) {
+        let v = words_at(work, i);
+        let free = ticker.free(v);
+        let state = ticker.prepare(v);
+        let full = ticker.after(state, free);
+        if misses(t, full) {
             let mut m: u16 = 0;
             while m < 256 {
                 let mask = m as u8;
-                let next = s.advance(t, mask);
-                if next.missed(t) {
+                let next = ticker.after(state, mask);
+                if misses(t, next) {
                     break 'hunt HuntAnswer::Miss(i, mask);
                 }
                 m = follow(free, mask);

@@ -1,14 +1,14 @@
 // The hash index over the slots: the newest slot of each bucket in `heads`, and in each slot the link to the next older one.
-// A slot i is written i + 1, and 0 ends a chain.
+// A slot i is written i + 1, and 0 ends a chain. Above its slot a head has a bit for each tag in its chain: most states that are
+// new are known as such by these bits alone.
 ghost use mathlib.Core.Path.{_≡_};
-ghost use Prim.Native.Nat.{_+_, _*_, _<_, _≤_};
+ghost use Prim.Native.Nat.{_+_, _*_, _^_, _<_, _≤_};
 ghost use lib.ListN.{length};
-ghost use Rattle.search.specs.Slot.{wordOf, keyOf, keyAt, sameKeys, bucketFor, Indexed, HeldIs, Pushed};
+ghost use Rattle.tasks.specs.Words.{stateOf};
+ghost use Rattle.search.specs.Slot.{keyOf, keyAt, sameKeys, mixed, bucketFor, tagFor, Indexed, HeldIs, Pushed};
 use crate::slots::four_at;
-use crate::slots::joined;
 use crate::slots::link_of;
 use crate::slots::put;
-use tasks::State;
 
 // The sixteen bytes of a state, as a slot has them, in four numbers: by these it is compared and hashed.
 pub(crate) struct Key {
@@ -18,35 +18,49 @@ pub(crate) struct Key {
     d: u32,
 }
 
-// The number of the four bytes of tasks 2k and 2k + 1, counted from 0.
-fn word_of(s: State, k: usize) -> u32
-    requires { ⌜ k < 4 ⌝ }
-    ensures { λ r. ⌜ r ≡ wordOf s k ⌝ }
+// The number of two words, low word first.
+fn double(x: u16, y: u16) -> u32
+    ensures { λ r. ⌜ r ≡ x + 65536 * y ⌝ }
 {
-    joined(s.c[2 * k], s.p[2 * k], s.c[2 * k + 1], s.p[2 * k + 1])
+    (x as u32) + 65536 * (y as u32)
 }
 
-fn key_of(s: State) -> Key
-    ensures { λ r. ⌜ r ≡ keyOf s ⌝ }
+fn key_of(v: [u16; 8]) -> Key
+    ensures { λ r. ⌜ r ≡ keyOf (stateOf v) ⌝ }
 {
     Key {
-        a: word_of(s, 0),
-        b: word_of(s, 1),
-        c: word_of(s, 2),
-        d: word_of(s, 3),
+        a: double(v[0], v[1]),
+        b: double(v[2], v[3]),
+        c: double(v[4], v[5]),
+        d: double(v[6], v[7]),
     }
 }
 
-// The bucket of a key, of `size` buckets: a power of two, for an even spread. The factors are below 2^30, so the sum fits.
+// A sum in which every byte of the key counts. The factors are below 2^30, so it fits.
+fn mix(key: Key) -> usize
+    ensures { λ r. ⌜ r ≡ mixed key ⌝ }
+{
+    625341585 * (key.a as usize)
+        + 1013904223 * (key.b as usize)
+        + 668265261 * (key.c as usize)
+        + 374761393 * (key.d as usize)
+}
+
+// The bucket of a key, of `size` buckets: a power of two, for an even spread.
 fn bucket(key: Key, size: usize) -> usize
     requires { ⌜ 0 < size ⌝ }
     ensures { λ r. ⌜ (r ≡ bucketFor size key) × (r < size) ⌝ }
 {
-    let x = 625341585 * (key.a as usize)
-        + 1013904223 * (key.b as usize)
-        + 668265261 * (key.c as usize)
-        + 374761393 * (key.d as usize);
+    let x = mix(key);
     (x / 4294967296 + x % 4294967296) & (size - 1)
+}
+
+// The bit of a key's tag.
+fn tag_bit(key: Key) -> u32
+    ensures { λ r. ⌜ (r ≡ 2 ^ tagFor key) × (r < 4096) ⌝ }
+{
+    let tag = mix(key) / 262144 % 12;
+    1 << tag
 }
 
 // Whether the state in slot i has this key.
@@ -61,14 +75,18 @@ fn same_at(work: &[u8], i: usize, key: Key) -> bool
         & (four_at(work, at + 12) == key.d)
 }
 
-// Whether one of the first n slots holds s.
-pub(crate) fn holds(work: &[u8], heads: &[u32], n: usize, s: State) -> bool
+// Whether one of the first n slots holds the state in the words v.
+pub(crate) fn holds(work: &[u8], heads: &[u32], n: usize, v: [u16; 8]) -> bool
     requires { ⌜ Indexed (now work) (now heads) n ⌝ }
-    ensures { λ r. ⌜ HeldIs (now (work .entry)) n s r ⌝ }
+    ensures { λ r. ⌜ HeldIs (now (work .entry)) n (stateOf v) r ⌝ }
 {
-    let key = key_of(s);
+    let key = key_of(v);
     let b = bucket(key, heads.len());
-    let mut cur = heads[b] as usize;
+    let head = heads[b];
+    if (head / 1048576) & tag_bit(key) == 0 {
+        return false;
+    }
+    let mut cur = (head % 1048576) as usize;
     while 0 < cur {
         let j = cur - 1;
         if same_at(work, j, key) {
@@ -80,12 +98,15 @@ pub(crate) fn holds(work: &[u8], heads: &[u32], n: usize, s: State) -> bool
 }
 
 // Writes slot n, at the front of its bucket's chain.
-pub(crate) fn push(work: &mut [u8], heads: &mut [u32], n: usize, s: State, parent: u32, mask: u8)
+pub(crate) fn push(work: &mut [u8], heads: &mut [u32], n: usize, v: [u16; 8], parent: u32, mask: u8)
     requires { ⌜ Indexed (now work) (now heads) n × (24 * n + 24 ≤ length (now work)) × (n < 1000000) ⌝ }
-    ensures { λ _. ⌜ Pushed (now (work .entry)) (now (work .exit)) (now (heads .entry)) (now (heads .exit)) n s parent mask ⌝ }
+    ensures { λ _. ⌜ Pushed (now (work .entry)) (now (work .exit)) (now (heads .entry)) (now (heads .exit)) n (stateOf v) parent mask ⌝ }
 {
-    let b = bucket(key_of(s), heads.len());
+    let key = key_of(v);
+    let b = bucket(key, heads.len());
     let at = 24 * n;
-    put(&mut work[at..], s, parent, mask, heads[b]);
-    heads[b] = (n + 1) as u32;
+    let head = heads[b];
+    put(&mut work[at..], v, parent, mask, head % 1048576);
+    let tags = (head / 1048576) | tag_bit(key);
+    heads[b] = tags * 1048576 + ((n + 1) as u32);
 }

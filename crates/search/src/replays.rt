@@ -3,7 +3,7 @@ ghost use mathlib.Core.Path.{_≡_};
 ghost use Prim.Native.Nat.{_<_};
 ghost use Rattle.tasks.specs.Replay.{outcomeTick};
 ghost use Rattle.search.specs.ReplayCall.{refusedAt, outcomeNumber, tableNumber, tableState, callNumber, callState};
-use crate::slots::put_state;
+use crate::slots::put_words;
 use tasks::Outcome;
 use tasks::Reading;
 use tasks::ReplayAnswer;
@@ -47,7 +47,7 @@ fn replay_table(t: Table, list: &[u8], state: &mut [u8]) -> u64
     match answer {
         ReplayAnswer::Refused(r, tick) => refused_at(r, tick),
         ReplayAnswer::Played(o) => {
-            put_state(state, last);
+            put_words(state, last.words());
             outcome_number(o)
         }
     }

@@ -41,7 +41,8 @@ fn search_with(
     requires { ⌜ Spaces t (now work) (now trace) (now heads) k × (k ≡ slotsIn (now work)) ⌝ }
     ensures { λ r. ⌜ Found t (now (work .entry)) (now (work .exit)) (now (trace .entry)) (now (trace .exit)) (figures r) ⌝ }
 {
-    let a = run_levels(t, work, trace, heads, k);
+    let ticker = t.ticker();
+    let a = run_levels(t, ticker, work, trace, heads, k);
     let n = count_of(a);
     clear_links(work, n);
     a

@@ -4,8 +4,10 @@ ghost use mathlib.Core.List.{_++_};
 ghost use Prim.Native.Nat.{_+_, _*_, _<_, _≤_};
 ghost use lib.ListN.{length, drop};
 ghost use lib.Seq.{sets};
+ghost use Rattle.tasks.specs.Words.{stateOf};
 ghost use Rattle.search.specs.Slot.{four, fourAt, stateAt, parentAt, maskAt, linkAt, stateBytes, linkedBytes, unlinked, Cleared};
-use tasks::State;
+use tasks::gap_in;
+use tasks::work_in;
 
 // The byte as a number that an index or a sum can hold.
 fn wide(x: u8) -> usize
@@ -15,7 +17,7 @@ fn wide(x: u8) -> usize
 }
 
 // The number of four bytes, low byte first.
-pub(crate) fn joined(x: u8, y: u8, z: u8, u: u8) -> u32
+fn joined(x: u8, y: u8, z: u8, u: u8) -> u32
     ensures { λ r. ⌜ r ≡ four x y z u ⌝ }
 {
     (x as u32) + 256 * (y as u32) + 65536 * (z as u32) + 16777216 * (u as u32)
@@ -29,21 +31,26 @@ pub(crate) fn four_at(work: &[u8], at: usize) -> u32
     joined(work[at], work[at + 1], work[at + 2], work[at + 3])
 }
 
-// The state in slot i.
-pub(crate) fn load(work: &[u8], i: usize) -> State
+// The number of two bytes, low byte first.
+fn two(x: u8, y: u8) -> u16
+    ensures { λ r. ⌜ r ≡ x + 256 * y ⌝ }
+{
+    (x as u16) + 256 * (y as u16)
+}
+
+// The words of the state in slot i.
+pub(crate) fn words_at(work: &[u8], i: usize) -> [u16; 8]
     requires { ⌜ 24 * i + 24 ≤ length (now work) ⌝ }
-    ensures { λ r. ⌜ r ≡ stateAt (now (work .entry)) i ⌝ }
+    ensures { λ r. ⌜ stateOf r ≡ stateAt (now (work .entry)) i ⌝ }
 {
     let at = 24 * i;
-    let mut c = [0u8; 8];
-    let mut p = [0u8; 8];
+    let mut v = [0u16; 8];
     let mut k: usize = 0;
     while k < 8 {
-        c[k] = work[at + 2 * k];
-        p[k] = work[at + 2 * k + 1];
+        v[k] = two(work[at + 2 * k], work[at + 2 * k + 1]);
         k += 1;
     }
-    State { c, p }
+    v
 }
 
 // The parent of slot i.
@@ -71,25 +78,25 @@ pub(crate) fn link_of(work: &[u8], i: usize) -> usize
     wide(work[at + 21]) + 256 * wide(work[at + 22]) + 65536 * wide(work[at + 23])
 }
 
-// Writes the sixteen bytes of a state at the front of the part that is lent.
-pub(crate) fn put_state(part: &mut [u8], s: State)
+// Writes the sixteen bytes of a state in words at the front of the part that is lent.
+pub(crate) fn put_words(part: &mut [u8], v: [u16; 8])
     requires { ⌜ 16 ≤ length (now part) ⌝ }
-    ensures { λ _. ⌜ now (part .exit) ≡ sets (now (part .entry)) 0 (stateBytes s) ⌝ }
+    ensures { λ _. ⌜ now (part .exit) ≡ sets (now (part .entry)) 0 (stateBytes (stateOf v)) ⌝ }
 {
     let mut k: usize = 0;
     while k < 8 {
-        part[2 * k] = s.c[k];
-        part[2 * k + 1] = s.p[k];
+        part[2 * k] = work_in(v[k]);
+        part[2 * k + 1] = gap_in(v[k]);
         k += 1;
     }
 }
 
 // Writes a slot, with its link, at the front of the part that is lent.
-pub(crate) fn put(part: &mut [u8], s: State, parent: u32, mask: u8, link: u32)
+pub(crate) fn put(part: &mut [u8], v: [u16; 8], parent: u32, mask: u8, link: u32)
     requires { ⌜ 24 ≤ length (now part) ⌝ }
-    ensures { λ _. ⌜ now (part .exit) ≡ linkedBytes s parent mask link ++ drop 24 (now (part .entry)) ⌝ }
+    ensures { λ _. ⌜ now (part .exit) ≡ linkedBytes (stateOf v) parent mask link ++ drop 24 (now (part .entry)) ⌝ }
 {
-    put_state(part, s);
+    put_words(part, v);
     part[16] = (parent % 256) as u8;
     part[17] = (parent / 256 % 256) as u8;
     part[18] = (parent / 65536 % 256) as u8;

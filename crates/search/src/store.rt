@@ -1,15 +1,16 @@
 // Storing the successors of a level's slots, each state once.
 ghost use mathlib.Core.Path.{_≡_};
 ghost use Prim.Native.Nat.{_≤_, _<_};
-ghost use Rattle.tasks.specs.Tick.{after};
+ghost use Rattle.tasks.specs.Words.{stateOf};
+ghost use Rattle.tasks.specs.Ticker.{tickerOf, tickedBy};
 ghost use Rattle.search.specs.Keeping.{Room, Level, Attempted, RowReady, RowIs, LevelIs};
 use crate::index::holds;
 use crate::index::push;
 use crate::masks::follow;
-use crate::masks::free_mask;
-use crate::slots::load;
-use tasks::State;
+use crate::slots::words_at;
+use tasks::Prepared;
 use tasks::Table;
+use tasks::Ticker;
 
 // What becomes of a state under a mask: nothing new, a new slot, or no room for one.
 pub(crate) enum Attempt {
@@ -24,21 +25,21 @@ pub(crate) enum Filled {
     Full,
 }
 
-// Stores what s, the state of slot i, leads to under a mask, where it is new.
+// Stores what the state of slot i leads to under a mask, where it is new.
 fn try_mask(
-    t: Table,
+    ticker: Ticker,
     work: &mut [u8],
     heads: &mut [u32],
-    s: State,
+    state: Prepared,
     n: usize,
     k: usize,
     i: usize,
     mask: u8,
 ) -> Attempt
     requires { ⌜ Room (now work) (now heads) n k × (i < n) ⌝ }
-    ensures { λ r. ⌜ Attempted (now (work .entry)) (now (work .exit)) (now (heads .entry)) (now (heads .exit)) n k (after t s mask) i mask r ⌝ }
+    ensures { λ r. ⌜ Attempted (now (work .entry)) (now (work .exit)) (now (heads .entry)) (now (heads .exit)) n k (stateOf (tickedBy ticker state mask)) i mask r ⌝ }
 {
-    let next = s.advance(t, mask);
+    let next = ticker.after(state, mask);
     if holds(work, heads, n, next) {
         return Attempt::Nothing;
     }
@@ -52,22 +53,24 @@ fn try_mask(
 // Stores the successors of slot i under its legal masks that are new; n slots are filled before.
 fn store_row(
     t: Table,
+    ticker: Ticker,
     work: &mut [u8],
     heads: &mut [u32],
     k: usize,
     from: usize,
     i: usize,
 ) -> Filled
-    requires { ⌜ RowReady t (now work) (now heads) k from i ⌝ }
+    requires { ⌜ (ticker ≡ tickerOf t) × RowReady t (now work) (now heads) k from i ⌝ }
     ensures { λ r. ⌜ RowIs t (now (work .entry)) (now (work .exit)) (now (heads .exit)) k from i r ⌝ }
 {
-    let s = load(work, i);
-    let free = free_mask(t, s);
+    let v = words_at(work, i);
+    let free = ticker.free(v);
+    let state = ticker.prepare(v);
     let mut n = from;
     let mut m: u16 = 0;
     while m < 256 {
         let mask = m as u8;
-        let a = try_mask(t, work, heads, s, n, k, i, mask);
+        let a = try_mask(ticker, work, heads, state, n, k, i, mask);
         match a {
             Attempt::Nothing => {}
             Attempt::New => {
@@ -85,19 +88,20 @@ fn store_row(
 // Stores the successors of the slots from lo to hi - 1 that are new.
 pub(crate) fn store_level(
     t: Table,
+    ticker: Ticker,
     work: &mut [u8],
     heads: &mut [u32],
     k: usize,
     lo: usize,
     hi: usize,
 ) -> Filled
-    requires { ⌜ (lo ≤ hi) × Level t (now work) hi × Room (now work) (now heads) hi k ⌝ }
+    requires { ⌜ (ticker ≡ tickerOf t) × (lo ≤ hi) × Level t (now work) hi × Room (now work) (now heads) hi k ⌝ }
     ensures { λ r. ⌜ LevelIs t (now (work .entry)) (now (work .exit)) (now (heads .exit)) k lo hi r ⌝ }
 {
     let mut n = hi;
     let mut i = lo;
     while i < hi {
-        let row = store_row(t, work, heads, k, n, i);
+        let row = store_row(t, ticker, work, heads, k, n, i);
         match row {
             Filled::Upto(more) => {
                 n = more;

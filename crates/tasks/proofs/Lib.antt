@@ -19,8 +19,10 @@ pub mod Legal
 pub mod Choice
 pub mod Place
 pub mod After
+pub mod Ticking
 pub mod Proper
 pub mod Late
+pub mod InWords
 pub mod More
 pub mod Answered
 pub mod Played

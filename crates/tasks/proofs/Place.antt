@@ -17,7 +17,7 @@ use Rattle.tasks.specs.Tick.{key, before, ahead, runs, chosen}
 use Rattle.tasks.specs.Places.{shiftedAt, place, under, rank, taken}
 use Rattle.tasks.specs.declared.state.State.{State}
 use Rattle.tasks.specs.declared.table.Table.{Table}
-use Rattle.tasks.proofs.Fill.{eight-at}
+use Rattle.tasks.proofs.Fill.{eight-at, eight-same}
 use Rattle.tasks.proofs.Turns.{count-turn, count-room}
 use Rattle.tasks.proofs.Bools.{by-bool}
 use Rattle.tasks.proofs.Counts.{count-same}
@@ -111,7 +111,7 @@ module _ (t : Table) (s : State) where
     none : (i : ℕ) → i < 8 → ready s i ≡ true → keeps t s i ≡ false → eqb (place t s i) 0 ≡ false
     none i h r e = rw (place-free i r e) (ne-eqb (shiftedAt t s i * 8 + i) 0 (λ q. omega (arith, shifted-range i (bytes i h) .0)))
 
-    taken-runs : (i : ℕ) → i < 8 → taken (eight (place t s)) (t .m) i ≡ runs t s i
+    pub taken-runs : (i : ℕ) → i < 8 → taken (eight (place t s)) (t .m) i ≡ runs t s i
     unfolding taken runs
     taken-runs i h =
         rw (eight-at 0 (place t s) i h)
@@ -126,7 +126,7 @@ module _ (t : Table) (s : State) where
     -- the tasks taken by their places are those that run
     pub taken-chosen : eight (taken (eight (place t s)) (t .m)) ≡ chosen t s
     unfolding chosen
-    taken-chosen = rw (taken-runs 0 (omega arith), taken-runs 1 (omega arith), taken-runs 2 (omega arith), taken-runs 3 (omega arith), taken-runs 4 (omega arith), taken-runs 5 (omega arith), taken-runs 6 (omega arith), taken-runs 7 (omega arith))
+    taken-chosen = eight-same (taken (eight (place t s)) (t .m)) (runs t s) taken-runs
 
 -- ---- the ranks, one place counted a turn
 

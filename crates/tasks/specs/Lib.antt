@@ -6,4 +6,6 @@ pub mod Answers
 pub mod State
 pub mod Tick
 pub mod Places
+pub mod Words
+pub mod Ticker
 pub mod Replay

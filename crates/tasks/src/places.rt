@@ -8,14 +8,14 @@ use crate::state::State;
 use crate::table::Table;
 
 // The byte as a wider number.
-fn wide(x: u8) -> u16
+pub(crate) fn wide(x: u8) -> u16
     ensures { λ r. ⌜ (r ≡ x) × (r < 256) ⌝ }
 {
     x as u16
 }
 
 // 256 more than the key.
-fn shifted(fixed: bool, deadline: u8, gap: u8, p: u8) -> u16
+pub(crate) fn shifted(fixed: bool, deadline: u8, gap: u8, p: u8) -> u16
     ensures { λ r. ⌜ (r ≡ shifted fixed deadline gap p) × (r < 1024) ⌝ }
 {
     if fixed {
@@ -54,7 +54,7 @@ fn count_place(ranks: [u16; 8], places: [u16; 8], i: usize) -> [u16; 8]
 }
 
 // For each task, how many places are below its own.
-fn ranks(places: [u16; 8]) -> [u16; 8]
+pub(crate) fn ranks(places: [u16; 8]) -> [u16; 8]
     ensures { λ r. ⌜ r ≡ eight (rank places 8) ⌝ }
 {
     let mut ranks = [0u16; 8];
@@ -79,7 +79,7 @@ impl State {
         packed(0 < c, self.keeps(t, i), key, i)
     }
 
-    fn places(self, t: Table) -> [u16; 8]
+    pub(crate) fn places(self, t: Table) -> [u16; 8]
         ensures { λ r. ⌜ r ≡ eight (place t self) ⌝ }
     {
         let mut places = [0u16; 8];

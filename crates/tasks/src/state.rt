@@ -42,7 +42,7 @@ fn time_left(deadline: u8, gap: u8, p: u8) -> i16
 }
 
 // The slack: the time left less the work left.
-fn slack_of(deadline: u8, gap: u8, p: u8, c: u8) -> i16
+pub(crate) fn slack_of(deadline: u8, gap: u8, p: u8, c: u8) -> i16
     ensures { λ r. ⌜ r ≡ slack deadline gap p c ⌝ }
 {
     time_left(deadline, gap, p) - (c as i16)

@@ -2,8 +2,11 @@
 ghost use mathlib.Core.Path.{_≡_};
 ghost use Prim.Native.Nat.{_+_, _*_, _<_, _≤_};
 ghost use Rattle.ticks.specs.Ticks.{bytesFrom, tableOf, stateAt, word, figure, pairs, ticksSum};
+ghost use Rattle.tasks.specs.Ticker.{preparedBy, tickedBy};
+ghost use Rattle.tasks.specs.Words.{wordsOf, stateOf};
 use tasks::State;
 use tasks::Table;
+use tasks::Ticker;
 
 // The byte as a wide number.
 fn wide(x: u8) -> u64
@@ -65,6 +68,14 @@ fn state_at(b: &[u8], k: usize) -> State
     }
 }
 
+// The state after a tick, by a table made ready.
+fn ticked(ticker: Ticker, s: State, mask: u8) -> State
+    ensures { λ r. ⌜ r ≡ stateOf (tickedBy ticker (preparedBy ticker (wordsOf s)) mask) ⌝ }
+{
+    let ready = ticker.prepare(s.words());
+    State::of_words(ticker.after(ready, mask))
+}
+
 // A state and whether it is missed, as one number.
 fn figure(t: Table, s: State) -> u64
     ensures { λ r. ⌜ r ≡ figure t s ⌝ }
@@ -87,7 +98,7 @@ fn pairs(states: &[u8], masks: &[u8]) -> usize
     }
 }
 
-// A tick for each mask and each state of 16 bytes: the figures of the states after them, added up.
+// A tick for each mask and each state of 16 bytes: the figures of the states after them, added up. The table is made ready once.
 #[no_mangle]
 pub extern "C" fn ticks(table: &[u8], states: &[u8], masks: &[u8]) -> u64
     ensures { λ r. ⌜ r ≡ ticksSum (now (table .entry)) (now (states .entry)) (now (masks .entry)) ⌝ }
@@ -96,12 +107,13 @@ pub extern "C" fn ticks(table: &[u8], states: &[u8], masks: &[u8]) -> u64
         return 0;
     }
     let t = table_of(table);
+    let ticker = t.ticker();
     let n = pairs(states, masks);
     let mut sum: u64 = 0;
     let mut k: usize = 0;
     while k < n {
         let s = state_at(states, k);
-        let after = s.advance(t, masks[k]);
+        let after = ticked(ticker, s, masks[k]);
         sum = std::num::wrapping_add_u64(sum, figure(t, after));
         k += 1;
     }

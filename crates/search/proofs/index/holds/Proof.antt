@@ -2,21 +2,26 @@
 use Prim.Native.Nat.{_-_}
 use mathlib.Core.Path.{_≡_, sym, _∙_}
 use lib.ListN.{length}
+use Rattle.tasks.specs.Words.{stateOf}
 use Rattle.levels.specs.Index.{Walk}
 use Rattle.levels.proofs.Index.{walk-start, walk-next, walk-falls, walk-end}
-use Rattle.search.specs.Slot.{keyAt, bucketFor}
+use Rattle.search.specs.Slot.{keyAt, bucketFor, bucketOf, tagOf, newest, tagsIn}
+use Rattle.search.proofs.WordLaws.{word-bytes}
 use Rattle.search.proofs.KeyLaws.{Bytes, keys-same, keys-differ}
-use Rattle.search.proofs.IndexLaws.{keyed, held, not-held}
+use Rattle.search.proofs.IndexLaws.{keyed, held, not-held, not-tagged}
 use native.Mathlib.Omega.{arith}
 use borrow.Author.Needs.{needs}
 use Rattle.search.proofs.index.holds.Statement.{statement}
 use Rattle.search.proofs.index.holds.Tie as tie
 
 abbrev Inv-loop : tie.InvT-loop
-Inv-loop work heads n key b cur₀ cur = Walk (bucketFor (length heads)) (keyAt work) n key cur
+Inv-loop work heads n key b head cur₀ cur = Walk (bucketFor (length heads)) (keyAt work) n key cur
 
 abbrev μ-loop : tie.MeasureT-loop
-μ-loop work heads n key b cur₀ cur = cur
+μ-loop work heads n key b head cur₀ cur = cur
+
+bytes : (c : tie.Start Inv-loop μ-loop) → Bytes (stateOf (c .args .v))
+bytes c = word-bytes (c .args .v) (λ k b. search needs)
 
 key-of-requires : tie.Need-key-of-requires Inv-loop μ-loop
 key-of-requires c κs = search needs
@@ -24,19 +29,27 @@ key-of-requires c κs = search needs
 bucket-requires : tie.Need-bucket-requires Inv-loop μ-loop
 bucket-requires c κs = c .before .before .before .pre .some
 
-mul-cur : tie.Need-mul-cur Inv-loop μ-loop
-mul-cur c = search needs
+mul-head : tie.Need-mul-head Inv-loop μ-loop
+mul-head c = search needs
 
-shared-slice-read-cur : tie.Need-shared-slice-read-cur Inv-loop μ-loop
-shared-slice-read-cur c = search needs
+shared-slice-read-head : tie.Need-shared-slice-read-head Inv-loop μ-loop
+shared-slice-read-head c = search needs
+
+tag-bit-requires : tie.Need-tag-bit-requires Inv-loop μ-loop
+tag-bit-requires c κs = search needs
+
+returns : tie.Need-returns Inv-loop μ-loop
+unfolding bucketOf tagOf tagsIn
+returns c =
+    let start = c .before .before .before .before .before .before .before in
+    not-tagged (start .pre) (stateOf (start .args .v)) (rw (c .before .before .before .bucket .ensures .0, c .before .tag-bit .ensures .0, c .before .before .before .before .key-of .ensures) at (c .if1 .taken))
 
 cast-cur : tie.Need-cast-cur Inv-loop μ-loop
-cast-cur c = omega (arith, c .before .before .before .before .before .pre .index .head-low (c .before .bucket .result))
+cast-cur c = omega arith
 
 loop-holds : tie.Need-loop-holds Inv-loop μ-loop
-loop-holds c =
-    let b = c .before in
-    rw (b .bucket .ensures .0) (walk-start (keyed (b .before .before .before .before .pre)) (b .before .key-of .result))
+unfolding newest
+loop-holds c = rw (c .before .before .before .bucket .ensures .0) (walk-start (keyed (c .before .before .before .before .before .before .before .pre)) (c .before .before .before .before .key-of .result))
 
 sub-j : tie.Need-sub-j Inv-loop μ-loop
 sub-j c = search needs
@@ -44,17 +57,14 @@ sub-j c = search needs
 same-at-requires : tie.Need-same-at-requires Inv-loop μ-loop
 same-at-requires c κs = search needs
 
-bytes : (c : tie.Start Inv-loop μ-loop) → Bytes (c .args .s)
-bytes c = record { c-length = search needs; p-length = search needs; c-fits = λ k b. search needs; p-fits = λ k b. search needs }
-
-returns : tie.Need-returns Inv-loop μ-loop
-returns c =
+returns-2 : tie.Need-returns-2 Inv-loop μ-loop
+returns-2 c =
     let l = c .before .before .before in
-    let key = l .before .before .before in
+    let key = l .before .before .before .before .before in
     let known = key .before .before in
     let start = known .before in
-    let e = keys-same _ _ (sym (c .before .same-at .ensures) ∙ c .if1 .taken) in
-    held _ (start .args .s) _ (l .loop .cur - 1) (known .shared-slice-known .given) (bytes start) (omega (arith, l .loop .inv .low))
+    let e = keys-same _ _ (sym (c .before .same-at .ensures) ∙ c .if2 .taken) in
+    held _ (stateOf (start .args .v)) _ (l .loop .cur - 1) (known .shared-slice-known .given) (bytes start) (omega (arith, l .loop .inv .low))
     (e ∙ key .key-of .ensures)
 
 link-of-requires : tie.Need-link-of-requires Inv-loop μ-loop
@@ -63,22 +73,22 @@ link-of-requires c κs = search needs
 loop-less : tie.Need-loop-less Inv-loop μ-loop
 loop-less c =
     let l = c .before .before .before .before in
-    let key = l .before .before .before in
+    let key = l .before .before .before .before .before in
     rw (c .link-of .ensures) (walk-falls (keyed (key .before .before .before .pre)) (key .key-of .result) (l .loop .cur) (omega arith) (l .loop .inv))
 
 loop-again : tie.Need-loop-again Inv-loop μ-loop
 loop-again c =
     let l = c .before .before .before .before in
-    let key = l .before .before .before in
+    let key = l .before .before .before .before .before in
     rw (c .link-of .ensures)
     (walk-next (keyed (key .before .before .before .pre)) (key .key-of .result) (l .loop .cur) (omega arith) (l .loop .inv)
-    (keys-differ _ _ (sym (c .before .before .same-at .ensures) ∙ c .before .if1 .left)))
+    (keys-differ _ _ (sym (c .before .before .same-at .ensures) ∙ c .before .if2 .left)))
 
-returns-2 : tie.Need-returns-2 Inv-loop μ-loop
-returns-2 c =
+returns-3 : tie.Need-returns-3 Inv-loop μ-loop
+returns-3 c =
     let l = c .before in
     let e : l .loop .cur ≡ 0 = omega arith in
-    not-held _ _ _ (rw (l .before .before .before .key-of .ensures) at (walk-end (rw e at (l .loop .inv))))
+    not-held _ _ _ (rw (l .before .before .before .before .before .key-of .ensures) at (walk-end (rw e at (l .loop .inv))))
 
 pub holds-spec : {M : Type 1} → statement M
 holds-spec =
@@ -88,14 +98,16 @@ holds-spec =
     μ-loop
     key-of-requires
     bucket-requires
-    mul-cur
-    shared-slice-read-cur
+    mul-head
+    shared-slice-read-head
+    tag-bit-requires
+    returns
     cast-cur
     loop-holds
     sub-j
     same-at-requires
-    returns
+    returns-2
     link-of-requires
     loop-less
     loop-again
-    returns-2)
+    returns-3)

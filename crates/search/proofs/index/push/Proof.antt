@@ -1,13 +1,25 @@
--- The slot is written with the old head as its link, and the head is then the slot. Assumes nothing.
+-- The slot is written with the old newest slot as its link, and the head is then the slot, with its tag. Assumes nothing.
+use Prim.Native.Nat.{ℕ, _<_}
 use mathlib.Core.Path.{ap, _∙_}
-use Rattle.search.specs.Slot.{bucketFor, bucketOf}
+use native.Mathlib.Numerals.{add-one}
+use lib.ListN.{getD}
+use Rattle.tasks.specs.Words.{stateOf}
+use Rattle.search.specs.Slot.{bucketFor, bucketOf, tagOf, newest, tagsIn}
 use Rattle.search.proofs.SlotLaws.{placed}
+use Rattle.search.proofs.WordLaws.{word-bytes}
 use Rattle.search.proofs.KeyLaws.{Bytes}
+use Rattle.search.proofs.TagLaws.{tags-fit}
 use Rattle.search.proofs.IndexLaws.{pushed}
 use native.Mathlib.Omega.{arith}
 use borrow.Author.Needs.{needs}
 use Rattle.search.proofs.index.push.Statement.{statement}
 use Rattle.search.proofs.index.push.Tie as tie
+
+bytes : (c : tie.Start) → Bytes (stateOf (c .args .v))
+bytes c = word-bytes (c .args .v) (λ k b. search needs)
+
+heads-fit : (c : tie.After-slice-known2) (b : ℕ) → getD (c .before .before .args .heads .now) b 0 < 4294967296
+heads-fit c b = let f = c .slice-known2 .given b in omega arith
 
 key-of-requires : tie.Need-key-of-requires
 key-of-requires c κs = search needs
@@ -18,6 +30,12 @@ bucket-requires c κs = search needs
 mul-at : tie.Need-mul-at
 mul-at c = search needs
 
+mul-head : tie.Need-mul-head
+mul-head c = search needs
+
+slice-read-head : tie.Need-slice-read-head
+slice-read-head c = search needs
+
 sub-put : tie.Need-sub-put
 sub-put c = search needs
 
@@ -27,14 +45,14 @@ part-put-start c = search needs
 part-put-end : tie.Need-part-put-end
 part-put-end c = search needs
 
-mul-put : tie.Need-mul-put
-mul-put c = search needs
-
-slice-read-put : tie.Need-slice-read-put
-slice-read-put c = search needs
-
 put-requires : tie.Need-put-requires
 put-requires c κs = search needs
+
+tag-bit-requires : tie.Need-tag-bit-requires
+tag-bit-requires c κs = search needs
+
+mul-heads : tie.Need-mul-heads
+mul-heads c = let f = tags-fit _ _ (heads-fit (c .before .before .before .before .before .before .before .before) (c .before .before .before .before .before .before .bucket .result)) (c .tag-bit .ensures .1) in omega arith
 
 add-heads : tie.Need-add-heads
 add-heads c = search needs
@@ -42,8 +60,11 @@ add-heads c = search needs
 cast-heads : tie.Need-cast-heads
 cast-heads c = search needs
 
-mul-heads : tie.Need-mul-heads
-mul-heads c = search needs
+add-heads-2 : tie.Need-add-heads-2
+add-heads-2 c = let f = tags-fit _ _ (heads-fit (c .before .before .before .before .before .before .before .before) (c .before .before .before .before .before .before .bucket .result)) (c .tag-bit .ensures .1) in let n = c .before .before .before .before .before .before .before .before .before .before .pre .2 in omega arith
+
+mul-heads-2 : tie.Need-mul-heads-2
+mul-heads-2 c = search needs
 
 slice-write-heads : tie.Need-slice-write-heads
 slice-write-heads c = search needs
@@ -54,20 +75,17 @@ same-length c = search needs
 same-length-2 : tie.Need-same-length-2
 same-length-2 c = search needs
 
-bytes : (c : tie.Start) → Bytes (c .args .s)
-bytes c = record { c-length = search needs; p-length = search needs; c-fits = λ k b. search needs; p-fits = λ k b. search needs }
-
 returns : tie.Need-returns
-unfolding bucketOf
+unfolding bucketOf newest tagsIn tagOf
 returns c =
-    let put = c .before .before in
-    let bucket = put .before .before .before in
-    let start = bucket .before .before .before .before in
+    let put = c .before .before .before in
+    let bucket = c .before .before .before .before .before .before in
+    let start = c .before .before .before .before .before .before .before .before .before .before in
     let a = start .args in
-    let e = placed (a .work .now) (a .n) (a .s) (a .parent) (a .mask) _ _ (omega arith) (put .put .ensures) in
     let key = bucket .before .key-of .ensures in
-    rw e
-    (pushed (start .pre .0) (a .s) (a .parent) (a .mask) (bucket .bucket .result) (start .pre .1) (start .pre .2)
+    let e = placed (a .work .now) (a .n) (stateOf (a .v)) (a .parent) (a .mask) _ _ (omega arith) (put .put .ensures) in
+    rw (e, c .tag-bit .ensures .0, key, add-one (a .n))
+    (pushed (start .pre .0) (stateOf (a .v)) (a .parent) (a .mask) (bucket .bucket .result) (start .pre .1) (start .pre .2)
     (bytes start)
     (omega arith) (bucket .bucket .ensures .0 ∙ ap (bucketFor _) key) (omega arith))
 
@@ -78,15 +96,18 @@ push-spec =
     key-of-requires
     bucket-requires
     mul-at
+    mul-head
+    slice-read-head
     sub-put
     part-put-start
     part-put-end
-    mul-put
-    slice-read-put
     put-requires
+    tag-bit-requires
+    mul-heads
     add-heads
     cast-heads
-    mul-heads
+    add-heads-2
+    mul-heads-2
     slice-write-heads
     same-length
     same-length-2

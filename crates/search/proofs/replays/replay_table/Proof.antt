@@ -3,6 +3,8 @@ use Rattle.search.proofs.CallLaws.{short-state, long-list, list-refused
 use Rattle.search.specs.Slot.{stateBytes}
 use Rattle.tasks.specs.declared.play.Replayed.{Replayed}
 use Rattle.tasks.specs.Replay.{replayTick, outcomeTick}
+use Rattle.tasks.specs.Words.{stateOf}
+use Rattle.tasks.proofs.Ticking.{StateBytes, words-state}
 use lib.Seq.{sets}
 use mathlib.Core.Path.{_≡_, sym, ap, _∙_}
 use native.Mathlib.Omega.{arith}
@@ -43,14 +45,17 @@ refused-at-requires-3 c κs =
 enum-known-answer-2 : tie.Need-enum-known-answer-2
 enum-known-answer-2 c = search needs
 
-put-state-requires : tie.Need-put-state-requires
-put-state-requires c κs = search needs
+words-requires : tie.Need-words-requires
+words-requires c κs = search needs
+
+put-words-requires : tie.Need-put-words-requires
+put-words-requires c κs = search needs
 
 outcome-number-requires : tie.Need-outcome-number-requires
 unfolding replayTick
 outcome-number-requires c κs =
-    let n : replayTick (c .before .before .before .before .before .before .before .before .replay .result .answer) ≡ outcomeTick (c .before .before .before .before .before .answer2 .given .0 .0) = ap replayTick (c .before .before .before .before .before .answer2 .given .1) in
-    omega (arith, c .before .before .before .before .before .before .before .before .replay .ensures .1, c .before .before .before .before .before .before .before .before .before .if2 .left)
+    let n : replayTick (c .before .before .before .before .before .before .before .before .before .replay .result .answer) ≡ outcomeTick (c .before .before .before .before .before .before .answer2 .given .0 .0) = ap replayTick (c .before .before .before .before .before .before .answer2 .given .1) in
+    omega (arith, c .before .before .before .before .before .before .before .before .before .replay .ensures .1, c .before .before .before .before .before .before .before .before .before .before .if2 .left)
 
 returns-3 : tie.Need-returns-3
 returns-3 c =
@@ -61,11 +66,21 @@ returns-3 c =
 same-length : tie.Need-same-length
 same-length c = search needs
 
+-- the numbers of the last state are bytes
+state-bytes : (c : tie.After-replay) → StateBytes (c .replay .result .state)
+state-bytes c =
+    record {
+      c-length = search needs;
+      p-length = search needs;
+      c = λ i h. search needs;
+      p = λ i h. search needs;
+    }
+
 returns-4 : tie.Need-returns-4
 returns-4 c =
-    let a = c .before .before .before .before .before .before .before .before .before .before .before .before .before .before .args in
-    let w = list-played (a .t) (a .list .now) (a .state .now) (c .before .before .before .before .before .before .before .before .before .before .before .if1 .left) (c .before .before .before .before .before .before .before .before .before .before .if2 .left) _ (ap (λ (x : Replayed). x .answer) (sym (c .before .before .before .before .before .before .before .before .before .replay .ensures .0)) ∙ c .before .before .before .before .before .before .answer2 .given .1) in
-    (c .outcome-number .ensures ∙ w .0, c .before .before .before .put-state .ensures ∙ ap (λ (x : Replayed). sets (a .state .now) 0 (stateBytes (x .state))) (c .before .before .before .before .before .before .before .before .before .replay .ensures .0) ∙ w .1)
+    let a = c .before .before .before .before .before .before .before .before .before .before .before .before .before .before .before .args in
+    let w = list-played (a .t) (a .list .now) (a .state .now) (c .before .before .before .before .before .before .before .before .before .before .before .before .if1 .left) (c .before .before .before .before .before .before .before .before .before .before .before .if2 .left) _ (ap (λ (x : Replayed). x .answer) (sym (c .before .before .before .before .before .before .before .before .before .before .replay .ensures .0)) ∙ c .before .before .before .before .before .before .before .answer2 .given .1) in
+    (c .outcome-number .ensures ∙ w .0, c .before .before .before .put-words .ensures ∙ ap (λ v. sets (a .state .now) 0 (stateBytes (stateOf v))) (c .before .before .before .before .words .ensures) ∙ ap (λ s. sets (a .state .now) 0 (stateBytes s)) (words-state _ (state-bytes (c .before .before .before .before .before .before .before .before .before .before))) ∙ ap (λ (x : Replayed). sets (a .state .now) 0 (stateBytes (x .state))) (c .before .before .before .before .before .before .before .before .before .before .replay .ensures .0) ∙ w .1)
 
 pub replay-table-spec : {M : Type 1} → statement M
 replay-table-spec =
@@ -79,7 +94,8 @@ replay-table-spec =
     enum-known-answer
     refused-at-requires-3
     enum-known-answer-2
-    put-state-requires
+    words-requires
+    put-words-requires
     outcome-number-requires
     returns-3
     same-length

@@ -10,18 +10,20 @@ use Rattle.search.proofs.store.store_level.Statement.{statement}
 use Rattle.search.proofs.store.store_level.Tie as tie
 
 abbrev Inv-loop : tie.InvT-loop
-Inv-loop t work₀ heads₀ k lo hi n₀ i₀ work heads n i = (i ≤ hi) × (length heads ≡ length heads₀) × LevelTo t work₀ work heads k lo hi n i
+Inv-loop t ticker work₀ heads₀ k lo hi n₀ i₀ work heads n i = (i ≤ hi) × (length heads ≡ length heads₀) × LevelTo t work₀ work heads k lo hi n i
 
 abbrev μ-loop : tie.MeasureT-loop
-μ-loop t work₀ heads₀ k lo hi n₀ i₀ work heads n i = hi - i
+μ-loop t ticker work₀ heads₀ k lo hi n₀ i₀ work heads n i = hi - i
 
 loop-holds : tie.Need-loop-holds Inv-loop μ-loop
 loop-holds c =
     let r = c .before .before .pre in
-    (omega arith, refl, level-start (r .0) (r .2))
+    (omega arith, refl, level-start (r .1) (r .3))
 
 store-row-requires : tie.Need-store-row-requires Inv-loop μ-loop
-store-row-requires c κs = level-ready (c .before .before .before .loop .inv .2) (c .before .before .before .before .before .before .pre .1) (c .before .before .loop-test .taken)
+store-row-requires c κs =
+    let r = c .before .before .before .before .before .before .pre in
+    (r .0, level-ready (c .before .before .before .loop .inv .2) (r .2) (c .before .before .loop-test .taken))
 
 enum-known-row : tie.Need-enum-known-row Inv-loop μ-loop
 enum-known-row c = search needs
@@ -30,10 +32,10 @@ enum-told : tie.Need-enum-told Inv-loop μ-loop
 enum-told c = search needs
 
 same-length : tie.Need-same-length Inv-loop μ-loop
-same-length c = c .before .before .before .before .before .before .store-row .kept .1 .0 ∙ c .before .before .before .before .before .before .before .before .before .before .loop .inv .2 .kept .len
+same-length c = c .before .before .before .before .before .before .store-row .kept .1 .1 .0 ∙ c .before .before .before .before .before .before .before .before .before .before .loop .inv .2 .kept .len
 
 same-length-2 : tie.Need-same-length-2 Inv-loop μ-loop
-same-length-2 c = c .before .before .before .before .before .before .store-row .kept .1 .1 .0 ∙ c .before .before .before .before .before .before .before .before .before .before .loop .inv .1
+same-length-2 c = c .before .before .before .before .before .before .store-row .kept .1 .1 .1 .0 ∙ c .before .before .before .before .before .before .before .before .before .before .loop .inv .1
 
 returns : tie.Need-returns Inv-loop μ-loop
 returns c =
@@ -49,7 +51,7 @@ loop-less c = search needs
 loop-again : tie.Need-loop-again Inv-loop μ-loop
 loop-again c =
     let y = rw (c .before .row .given .1) at (c .before .before .before .before .before .before .before .store-row .ensures) in
-    (omega arith, c .before .before .before .before .before .before .before .store-row .kept .1 .1 .0 ∙ c .before .before .before .before .before .before .before .before .before .before .before .loop .inv .1, level-row (c .before .before .before .before .before .before .before .before .before .before .before .loop .inv .2) (c .before .before .before .before .before .before .before .before .before .before .loop-test .taken) y)
+    (omega arith, c .before .before .before .before .before .before .before .store-row .kept .1 .1 .1 .0 ∙ c .before .before .before .before .before .before .before .before .before .before .before .loop .inv .1, level-row (c .before .before .before .before .before .before .before .before .before .before .before .loop .inv .2) (c .before .before .before .before .before .before .before .before .before .before .loop-test .taken) y)
 
 same-length-3 : tie.Need-same-length-3 Inv-loop μ-loop
 same-length-3 c = c .before .loop .inv .2 .kept .len

@@ -1,45 +1,81 @@
 -- The invariant: the successors under the masks passed are stored. Assumes nothing.
-use mathlib.Core.Path.{_≡_, refl, _∙_}
-use Prim.Native.Nat.{_-_, _≤_}
+use mathlib.Core.Path.{_≡_, refl, sym, ap, _∙_}
+use Prim.Native.Nat.{ℕ, _-_, _≤_}
 use mathlib.Core.Logic.{⊎-elim}
 use lib.ListN.{length}
-use Rattle.search.specs.Keeping.{RowTo}
-use Rattle.search.proofs.StoreLaws.{row-start, row-known, row-added, row-crowded, row-falls, row-end}
+use Rattle.tasks.specs.Tick.{after}
+use Rattle.tasks.specs.Ticker.{tickerOf}
+use Rattle.tasks.specs.declared.table.Table.{Table}
+use Rattle.tasks.proofs.Ticking.{TableBytes, WordList}
+use Rattle.search.specs.Keeping.{RowReady}
+use Rattle.search.specs.Masks.{freeMask}
+use Rattle.search.specs.Slot.{stateAt}
+use Rattle.search.proofs.TickerLaws.{ticks, frees}
+use Rattle.search.proofs.StoreLaws.{RowBy, row-start, row-known, row-added, row-crowded, row-falls, row-end}
 use native.Mathlib.Omega.{arith}
 use borrow.Author.Needs.{needs}
 use Rattle.search.proofs.store.store_row.Statement.{statement}
 use Rattle.search.proofs.store.store_row.Tie as tie
 
 abbrev Inv-loop : tie.InvT-loop
-Inv-loop t work₀ heads₀ k from i s free n₀ m₀ work heads n m = (from ≤ n) × (length heads ≡ length heads₀) × RowTo t work₀ work heads s k from n i free m
+Inv-loop ticker work₀ heads₀ k from i free state n₀ m₀ work heads n m =
+    (from ≤ n) × (length heads ≡ length heads₀)
+    × ((t : Table) → ticker ≡ tickerOf t → TableBytes t → RowReady t work₀ heads₀ k from i → RowBy t ticker state work₀ work heads k from n i free m)
 
 abbrev μ-loop : tie.MeasureT-loop
-μ-loop t work₀ heads₀ k from i s free n₀ m₀ work heads n m = 256 - m
+μ-loop ticker work₀ heads₀ k from i free state n₀ m₀ work heads n m = 256 - m
 
-load-requires : tie.Need-load-requires Inv-loop μ-loop
-load-requires c κs =
-    let r = c .before .before .before .pre in
+-- the numbers of the table are bytes, and the words are words
+table-bytes : (c : tie.Start Inv-loop μ-loop) → TableBytes (c .args .t)
+table-bytes c = record { work = λ i h. search needs; deadline = λ i h. search needs; gap = λ i h. search needs }
+
+word-list : (c : tie.After-words-at Inv-loop μ-loop) → WordList (c .words-at .result)
+word-list c = record { word = λ i h. search needs }
+
+-- where the row began, and the row of the table given
+abbrev start : tie.At-loop Inv-loop μ-loop → tie.Start Inv-loop μ-loop
+start l = l .before .before .before .before .before .before .before
+
+own :
+    (l : tie.At-loop Inv-loop μ-loop)
+    → RowBy (start l .args .t) (start l .args .ticker) (l .before .prepare .result) (start l .args .work .now) (l .loop .work) (l .loop .heads) (start l .args .k) (start l .args .from) (l .loop .n) (start l .args .i) (l .before .before .free .result) (l .loop .m)
+own l = l .loop .inv .2 (start l .args .t) (start l .pre .0) (table-bytes (start l)) (start l .pre .1)
+
+words-at-requires : tie.Need-words-at-requires Inv-loop μ-loop
+words-at-requires c κs =
+    let r = c .before .before .before .pre .1 in
     let f = r .room .fits in
     let g = r .room .room in
     let h = r .below in
     omega arith
 
-free-mask-requires : tie.Need-free-mask-requires Inv-loop μ-loop
-free-mask-requires c κs = search needs
+free-requires : tie.Need-free-requires Inv-loop μ-loop
+free-requires c κs = search needs
+
+prepare-requires : tie.Need-prepare-requires Inv-loop μ-loop
+prepare-requires c κs = search needs
 
 loop-holds : tie.Need-loop-holds Inv-loop μ-loop
 loop-holds c =
-    let load = c .before .load in
-    (omega arith, refl, row-start (c .before .before .before .before .before .pre) (load .ensures) (omega (arith, c .free-mask .ok)))
+    let first = c .before .before .before .before .before .before in
+    let at = c .before .before .words-at .ensures in (
+      omega arith,
+      refl,
+      λ t e bytes ready. record {
+        is = frees t _ e (c .before .free .ensures) ∙ ap (freeMask t) at;
+        ticks = λ mask. ticks t _ e (c .prepare .ensures) bytes (word-list (c .before .before)) mask ∙ ap (λ s. after t s mask) at;
+        row = row-start ready refl (omega (arith, c .before .free .ok));
+      },
+    )
 
 cast-mask : tie.Need-cast-mask Inv-loop μ-loop
 cast-mask c = search needs
 
 try-mask-requires : tie.Need-try-mask-requires Inv-loop μ-loop
 try-mask-requires c κs =
-    let x = c .before .before .before .loop .inv in
-    let h = c .before .before .before .before .before .before .before .before .before .pre .below in
-    (x .2 .room, omega arith)
+    let x = own (c .before .before .before) in
+    let h = start (c .before .before .before) .pre .1 .below in
+    (x .row .room, omega arith)
 
 enum-told : tie.Need-enum-told Inv-loop μ-loop
 enum-told c = search needs
@@ -48,56 +84,66 @@ enum-told-2 : tie.Need-enum-told-2 Inv-loop μ-loop
 enum-told-2 c = search needs
 
 add-n : tie.Need-add-n Inv-loop μ-loop
-add-n c = search needs
+add-n c = let x = own (c .before .before .before .before .before .before .before .before .before .before) .row .room in let a = x .room in let b = x .few in omega arith
 
 enum-told-3 : tie.Need-enum-told-3 Inv-loop μ-loop
 enum-told-3 c = search needs
 
 same-length : tie.Need-same-length Inv-loop μ-loop
-same-length c = c .before .before .before .before .before .before .try-mask .kept .1 .0 ∙ c .before .before .before .before .before .before .before .before .before .before .loop .inv .2 .kept .len
+same-length c = c .before .before .before .before .before .before .try-mask .kept .1 .0 ∙ own (c .before .before .before .before .before .before .before .before .before .before) .row .kept .len
 
 same-length-2 : tie.Need-same-length-2 Inv-loop μ-loop
 same-length-2 c = c .before .before .before .before .before .before .try-mask .kept .1 .1 .0 ∙ c .before .before .before .before .before .before .before .before .before .before .loop .inv .1
 
 returns : tie.Need-returns Inv-loop μ-loop
 returns c =
-    let x = c .before .before .before .before .before .before .before .before .before .before .loop .inv .2 in
-    let y = rw (c .enum-told3 .given .1) at (c .before .before .before .before .before .before .try-mask .ensures) in
-    row-crowded (c .before .before .before .before .before .before .before .before .before .before .before .before .before .before .before .before .pre) x (c .before .before .before .before .before .before .before .before .before .before .before .free-mask .ensures) (c .before .before .before .before .before .before .before .before .before .loop-test .taken) y
+    let l = c .before .before .before .before .before .before .before .before .before .before in
+    let x = own l in
+    let y = rw (c .enum-told3 .given .1) at (rw (x .ticks _) at (c .before .before .before .before .before .before .try-mask .ensures)) in
+    row-crowded (start l .pre .1) (x .row) (x .is) (c .before .before .before .before .before .before .before .before .before .loop-test .taken) y
 
 follow-requires : tie.Need-follow-requires Inv-loop μ-loop
 follow-requires c κs = search needs
 
 loop-less : tie.Need-loop-less Inv-loop μ-loop
 loop-less c =
-    let x = c .before .before .before .before .before .before .before .before .before .before .loop .inv .2 in
-    let m = x .most in
-    rw (c .follow .ensures) (omega (arith, row-falls (c .before .before .before .before .before .before .before .before .before .before .before .before .before .before .before .before .pre) x (c .before .before .before .before .before .before .before .before .before .before .before .free-mask .ensures) (c .before .before .before .before .before .before .before .before .before .loop-test .taken)))
+    let l = c .before .before .before .before .before .before .before .before .before .before in
+    let x = own l in
+    let m = x .row .most in
+    rw (c .follow .ensures) (omega (arith, row-falls (start l .pre .1) (x .row) (x .is) (c .before .before .before .before .before .before .before .before .before .loop-test .taken)))
 
 loop-again : tie.Need-loop-again Inv-loop μ-loop
 loop-again c =
-    let x = c .before .before .before .before .before .before .before .before .before .before .loop .inv .2 in
-    let ready = c .before .before .before .before .before .before .before .before .before .before .before .before .before .before .before .before .pre in
-    let is = c .before .before .before .before .before .before .before .before .before .before .before .free-mask .ensures in
+    let l = c .before .before .before .before .before .before .before .before .before .before in
     let b = c .before .before .before .before .before .before .before .before .before .loop-test .taken in
     let call = c .before .before .before .before .before .before .try-mask in
     ⊎-elim
-    (λ w.
-    let y = rw (w .1 .given .1) at (call .ensures) in
-    (omega arith, call .kept .1 .1 .0 ∙ c .before .before .before .before .before .before .before .before .before .before .loop .inv .1, rw (c .follow .ensures, w .2) (row-known ready x is b y)))
-    (λ w.
-    let y = rw (w .1 .given .1) at (call .ensures) in
-    (omega arith, call .kept .1 .1 .0 ∙ c .before .before .before .before .before .before .before .before .before .before .loop .inv .1, rw (c .follow .ensures, w .2) (row-added ready x is b y)))
+    (λ w. (
+      omega arith,
+      call .kept .1 .1 .0 ∙ l .loop .inv .1,
+      λ t e bytes ready.
+          let x = l .loop .inv .2 t e bytes ready in
+          let y = rw (w .1 .given .1) at (rw (x .ticks _) at (call .ensures)) in
+          record { is = x .is; ticks = x .ticks; row = rw (c .follow .ensures, w .2) (row-known ready (x .row) (x .is) b y) },
+    ))
+    (λ w. (
+      omega arith,
+      call .kept .1 .1 .0 ∙ l .loop .inv .1,
+      λ t e bytes ready.
+          let x = l .loop .inv .2 t e bytes ready in
+          let y = rw (w .1 .given .1) at (rw (x .ticks _) at (call .ensures)) in
+          record { is = x .is; ticks = x .ticks; row = rw (c .follow .ensures, w .2) (row-added ready (x .row) (x .is) b y) },
+    ))
     (c .before .match .came)
 
 same-length-3 : tie.Need-same-length-3 Inv-loop μ-loop
-same-length-3 c = c .before .loop .inv .2 .kept .len
+same-length-3 c = own (c .before) .row .kept .len
 
 same-length-4 : tie.Need-same-length-4 Inv-loop μ-loop
 same-length-4 c = c .before .loop .inv .1
 
 returns-2 : tie.Need-returns-2 Inv-loop μ-loop
-returns-2 c = row-end (c .before .before .before .before .before .before .before .pre) (c .before .loop .inv .2) (c .before .before .free-mask .ensures) (c .loop-test .left)
+returns-2 c = let l = c .before in row-end (start l .pre .1) (own l .row) (own l .is) (c .loop-test .left)
 
 pub store-row-spec : {M : Type 1} → statement M
 store-row-spec =
@@ -105,8 +151,9 @@ store-row-spec =
     (tie.spec
     Inv-loop
     μ-loop
-    load-requires
-    free-mask-requires
+    words-at-requires
+    free-requires
+    prepare-requires
     loop-holds
     cast-mask
     try-mask-requires

@@ -5,8 +5,8 @@ use borrow.Author.Needs.{needs}
 use Rattle.search.proofs.store.try_mask.Statement.{statement}
 use Rattle.search.proofs.store.try_mask.Tie as tie
 
-advance-requires : tie.Need-advance-requires
-advance-requires c κs = search needs
+after-requires : tie.Need-after-requires
+after-requires c κs = search needs
 
 holds-requires : tie.Need-holds-requires
 holds-requires c κs = search needs
@@ -20,7 +20,7 @@ same-length-2 c = search needs
 returns : tie.Need-returns
 returns c =
     record {
-      held = rw (c .before .before .before .before .advance .ensures) at (rw (c .if1 .taken) at (c .before .holds .ensures));
+      held = rw (c .before .before .before .before .after .ensures) at (rw (c .if1 .taken) at (c .before .holds .ensures));
       same = refl;
       same-heads = refl;
     }
@@ -35,7 +35,7 @@ returns-2 : tie.Need-returns-2
 returns-2 c =
     record {
       full = c .if2 .taken;
-      absent = rw (c .before .before .before .before .before .advance .ensures) at (rw (c .before .if1 .left) at (c .before .before .holds .ensures));
+      absent = rw (c .before .before .before .before .before .after .ensures) at (rw (c .before .if1 .left) at (c .before .before .holds .ensures));
       same = refl;
     }
 
@@ -57,15 +57,15 @@ returns-3 c =
     let r = c .before .before .before .before .before .before .before .before .before .before .before .before .before .before .before .pre .0 .room in
     record {
       below = omega arith;
-      absent = rw (c .before .before .before .before .before .before .before .before .before .before .before .before .advance .ensures) at (rw (c .before .before .before .before .before .before .before .before .if1 .left) at (c .before .before .before .before .before .before .before .before .before .holds .ensures));
-      pushed = rw (c .before .before .before .before .before .before .before .before .before .before .before .before .advance .ensures) at (c .before .before .before .before .push .ensures);
+      absent = rw (c .before .before .before .before .before .before .before .before .before .before .before .before .after .ensures) at (rw (c .before .before .before .before .before .before .before .before .if1 .left) at (c .before .before .before .before .before .before .before .before .before .holds .ensures));
+      pushed = rw (c .before .before .before .before .before .before .before .before .before .before .before .before .after .ensures) at (c .before .before .before .before .push .ensures);
     }
 
 pub try-mask-spec : {M : Type 1} → statement M
 try-mask-spec =
     tie.close
     (tie.spec
-    advance-requires
+    after-requires
     holds-requires
     same-length
     same-length-2

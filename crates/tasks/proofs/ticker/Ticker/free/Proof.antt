@@ -1,9 +1,9 @@
--- The sum of the weights of the releasable tasks. Assumes nothing.
 use native.Mathlib.Omega.{arith}
-use Rattle.search.specs.Masks.{byteOf, freeMask}
+use Rattle.tasks.specs.Lists.{byteOf}
+use Rattle.tasks.specs.Ticker.{freeBy}
 use borrow.Author.Needs.{needs}
-use Rattle.search.proofs.masks.free_mask.Statement.{statement}
-use Rattle.search.proofs.masks.free_mask.Tie as tie
+use Rattle.tasks.proofs.ticker.Ticker.free.Statement.{statement}
+use Rattle.tasks.proofs.ticker.Ticker.free.Tie as tie
 
 weight-requires : tie.Need-weight-requires
 weight-requires c κs = search needs
@@ -51,11 +51,11 @@ add-result-3 : tie.Need-add-result-3
 add-result-3 c = search needs
 
 returns : tie.Need-returns
-unfolding freeMask byteOf
+unfolding freeBy byteOf
 returns c = omega arith
 
-pub free-mask-spec : {M : Type 1} → statement M
-free-mask-spec =
+pub free-spec : {M : Type 1} → statement M
+free-spec =
     tie.close
     (tie.spec
     weight-requires

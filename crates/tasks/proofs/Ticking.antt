@@ -1,0 +1,298 @@
+-- A tick of a table and a state made ready is the tick of the model. Assumes nothing.
+use Prim.Native.Nat.{ℕ, zero, suc, _+_, _-_, _*_, _/_, _%_, _^_, _<_}
+use mathlib.Core.Path.{_≡_, refl, sym, ap, ap₂, _∙_}
+use mathlib.Core.List.{List}
+use mathlib.Core.Bool.{Bool, true, false, not, _&&_}
+use native.Mathlib.Omega.{arith}
+use native.Mathlib.Nat.{pow-suc}
+use lib.Bits.{bitAnd, and-zero-r, and-mask, and-high}
+use lib.Dec.{eqb, ltb}
+use lib.ListN.{length, getD}
+use lib.Pow.{pow-pos}
+use lib.Seq.{ext-getD}
+use mir.Syntax.{w8, w16}
+use mir.Val.{Fits}
+use borrow.Author.Tests.{le-ltb, ltb-true, eq-eqb, ne-eqb}
+use Rattle.tasks.specs.Lists.{eight, pick}
+use Rattle.tasks.specs.State.{start, notPreempted, ready, started, keeps}
+use Rattle.tasks.specs.Tick.{bit, released, runs, chosen, ranAt, fallen, ran, after}
+use Rattle.tasks.specs.Places.{shifted, shiftedAt, place, taken}
+use Rattle.tasks.specs.Words.{wordsOf, stateOf}
+use Rattle.tasks.specs.Ticker.{tickerOf, oldPlace, oldWord, preparedBy, selected, lowered, tickedBy}
+use Rattle.tasks.specs.declared.state.State.{State}
+use Rattle.tasks.specs.declared.table.Table.{Table}
+use Rattle.tasks.proofs.Bools.{by-bool, and-left}
+use Rattle.tasks.proofs.Fill.{eight-at, eight-same}
+use Rattle.tasks.proofs.Place.{Bytes, taken-runs}
+use Rattle.tasks.proofs.After.{work-on, work-off, gap-on, gap-off}
+
+-- the table's numbers are bytes
+pub record TableBytes (t : Table) : Type 0 where
+  pub work : (i : ℕ) → i < 8 → Fits w8 (getD (t .work) i 0)
+  pub deadline : (i : ℕ) → i < 8 → Fits w8 (getD (t .deadline) i 0)
+  pub gap : (i : ℕ) → i < 8 → Fits w8 (getD (t .gap) i 0)
+
+-- the state's numbers are bytes, eight of each
+pub record StateBytes (s : State) : Type 0 where
+  pub c-length : length (s .c) ≡ 8
+  pub p-length : length (s .p) ≡ 8
+  pub c : (i : ℕ) → i < 8 → Fits w8 (getD (s .c) i 0)
+  pub p : (i : ℕ) → i < 8 → Fits w8 (getD (s .p) i 0)
+
+-- the words are of two bytes
+pub record WordList (v : List ℕ) : Type 0 where
+  pub word : (i : ℕ) → i < 8 → Fits w16 (getD v i 0)
+
+-- ---- states in words
+
+low : (c p : ℕ) → c < 256 → (c + 256 * p) % 256 ≡ c
+low c p h = omega arith
+
+high : (c p : ℕ) → c < 256 → (c + 256 * p) / 256 ≡ p
+high c p h = omega arith
+
+state-same : {s u : State} → s .c ≡ u .c → s .p ≡ u .p → s ≡ u
+state-same e h = λ x. record { c = e x; p = h x }
+
+-- LAW: a word of a state
+pub words-at : (s : State) (i : ℕ) → i < 8 → getD (wordsOf s) i 0 ≡ getD (s .c) i 0 + 256 * getD (s .p) i 0
+unfolding wordsOf
+words-at s i h = eight-at 0 (λ i. getD (s .c) i 0 + 256 * getD (s .p) i 0) i h
+
+-- LAW: the words have two bytes
+pub words-fit : (s : State) → StateBytes s → WordList (wordsOf s)
+words-fit s b = record { word = λ i h. rw (words-at s i h) (record { fits = omega (arith, b .c i h, b .p i h) }) }
+
+-- LAW: the state of a state's words is the state
+pub words-state : (s : State) → StateBytes s → stateOf (wordsOf s) ≡ s
+unfolding stateOf
+words-state s b =
+    state-same
+    (ext-getD 0 (eight (λ i. getD (wordsOf s) i 0 % 256)) (s .c) (sym (b .c-length)) (λ i h. c-same i (omega arith)))
+    (ext-getD 0 (eight (λ i. getD (wordsOf s) i 0 / 256)) (s .p) (sym (b .p-length)) (λ i h. p-same i (omega arith)))
+  where
+    c-same : (i : ℕ) → i < 8 → getD (eight (λ i. getD (wordsOf s) i 0 % 256)) i 0 ≡ getD (s .c) i 0
+    c-same i h =
+        eight-at 0 (λ i. getD (wordsOf s) i 0 % 256) i h
+        ∙ ap (λ w. w % 256) (words-at s i h)
+        ∙ low (getD (s .c) i 0) (getD (s .p) i 0) (omega (arith, b .c i h))
+
+    p-same : (i : ℕ) → i < 8 → getD (eight (λ i. getD (wordsOf s) i 0 / 256)) i 0 ≡ getD (s .p) i 0
+    p-same i h =
+        eight-at 0 (λ i. getD (wordsOf s) i 0 / 256) i h
+        ∙ ap (λ w. w / 256) (words-at s i h)
+        ∙ high (getD (s .c) i 0) (getD (s .p) i 0) (omega (arith, b .c i h))
+
+-- ---- a mask's bits
+
+power-half : (i : ℕ) → 2 ^ (1 + i) - 2 ^ i ≡ 2 ^ i
+power-half i = let e : 2 ^ (1 + i) ≡ 2 ^ suc i = ap (λ k. 2 ^ k) (omega arith) in omega (arith, e, pow-suc 2 i)
+
+digit-test : (d w : ℕ) → d < 2 → 0 < w → eqb (d * w) 0 ≡ not (eqb d 1)
+digit-test zero w h k = eq-eqb (0 * w) 0 (omega arith)
+digit-test (suc zero) w h k = ne-eqb (1 * w) 0 (λ e. omega arith)
+digit-test (suc (suc d)) w h k = absurd (omega arith)
+
+pub mask-test : (mask i : ℕ) → eqb (bitAnd mask (2 ^ i)) 0 ≡ not (bit mask i)
+mask-test mask i =
+    ap (λ x. eqb x 0) (ap (bitAnd mask) (sym (power-half i)) ∙ and-high mask 1 i)
+    ∙ digit-test (mask / 2 ^ i % 2) (2 ^ i) (omega arith) (pow-pos i)
+
+-- every bit of 255 is set
+full : (i : ℕ) → i < 8 → bit 255 i ≡ true
+full zero h = refl
+full (suc zero) h = refl
+full (suc (suc zero)) h = refl
+full (suc (suc (suc zero))) h = refl
+full (suc (suc (suc (suc zero)))) h = refl
+full (suc (suc (suc (suc (suc zero))))) h = refl
+full (suc (suc (suc (suc (suc (suc zero)))))) h = refl
+full (suc (suc (suc (suc (suc (suc (suc zero))))))) h = refl
+full (suc (suc (suc (suc (suc (suc (suc (suc i)))))))) h = absurd (omega arith)
+
+-- ---- the places
+
+-- a place is made of the two numbers of its task
+place-same : (t : Table) (s u : State) (i : ℕ) → getD (s .c) i 0 ≡ getD (u .c) i 0 → getD (s .p) i 0 ≡ getD (u .p) i 0 → place t s i ≡ place t u i
+unfolding place keeps started shiftedAt
+place-same t s u i e h = rw (e, h)
+
+stays-test : (stays : Bool) (c work : ℕ) → ltb c (pick stays work 0) ≡ stays && ltb c work
+stays-test true c work = refl
+stays-test false c work = le-ltb c 0 (omega arith)
+
+ticks-all : (p : ℕ) → p < 256 → bitAnd p 255 ≡ p
+ticks-all p h = and-mask p 8 ∙ omega arith
+
+key-old :
+    (fixed : Bool) (d g p i : ℕ) → i < 8 → Fits w8 d → Fits w8 g → p < 256
+    → (bitAnd p (pick fixed 0 255) * 8 + (shifted fixed d g 0 * 8 + i)) % 65536 ≡ shifted fixed d g p * 8 + i
+key-old true d g p i h a b c = rw (and-zero-r p) (omega arith)
+key-old false d g p i h a b c = rw (ticks-all p c) (omega arith)
+
+place-old :
+    (t : Table) (s : State) (i w : ℕ) → i < 8 → TableBytes t → Fits w16 w → getD (s .c) i 0 ≡ w % 256 → getD (s .p) i 0 ≡ w / 256
+    → oldPlace (pick (ltb (t .policy) 2) 0 255) (pick (notPreempted t) (getD (t .work) i 0) 0) (shifted (ltb (t .policy) 2) (getD (t .deadline) i 0) (getD (t .gap) i 0) 0 * 8 + i) w
+    ≡ place t s i
+unfolding oldPlace place keeps started shiftedAt
+place-old t s i w h b f e k =
+    rw (e, k)
+    (by-bool (ltb 0 (w % 256))
+    (λ r.
+    rw r
+    (ap₂ (λ y x. pick y 0 x)
+    (stays-test (notPreempted t) (w % 256) (getD (t .work) i 0))
+    (key-old (ltb (t .policy) 2) (getD (t .deadline) i 0) (getD (t .gap) i 0) (w / 256) i h (b .deadline i h) (b .gap i h) (omega arith))))
+    (λ r. rw r))
+
+-- ---- what a mask selects
+
+module _ (mask : ℕ) (old new : List ℕ) (i : ℕ) (h : i < 8) where
+  bit-tested : eqb (bitAnd mask (getD (eight (λ i. 2 ^ i)) i 0)) 0 ≡ not (bit mask i)
+  bit-tested = ap (λ x. eqb (bitAnd mask x) 0) (eight-at 0 (λ i. 2 ^ i) i h) ∙ mask-test mask i
+
+  selected-new : bit mask i ≡ true → selected (eight (λ i. 2 ^ i)) mask old new i ≡ getD new i 0
+  unfolding selected
+  selected-new e = ap (λ b. pick b (getD old i 0) (getD new i 0)) (bit-tested ∙ ap not e)
+
+  selected-old : bit mask i ≡ false → selected (eight (λ i. 2 ^ i)) mask old new i ≡ getD old i 0
+  unfolding selected
+  selected-old e = ap (λ b. pick b (getD old i 0) (getD new i 0)) (bit-tested ∙ ap not e)
+
+-- ---- a tick
+
+-- a word after a run, or with none
+word-low : (r : Bool) (c p : ℕ) → c < 256 → (r ≡ true → 0 < c) → (c + 256 * p - pick r 1 0) % 256 ≡ pick r (c - 1) c
+word-low true c p h k = let f = k refl in omega arith
+word-low false c p h k = omega arith
+
+word-high : (r : Bool) (c p : ℕ) → c < 256 → (r ≡ true → 0 < c) → (c + 256 * p - pick r 1 0) / 256 ≡ p
+word-high true c p h k = let f = k refl in omega arith
+word-high false c p h k = omega arith
+
+runs-ready : (t : Table) (s : State) (i : ℕ) → runs t s i ≡ true → 0 < getD (s .c) i 0
+unfolding runs
+runs-ready t s i e = ltb-true 0 (getD (s .c) i 0) (and-left (ready s i) _ e)
+
+-- a run of no task
+idle-work : (s : State) (i : ℕ) → i < 8 → getD (ran s (eight (λ i. false)) .c) i 0 ≡ getD (s .c) i 0
+unfolding ran ranAt
+idle-work s i h =
+    eight-at 0 (ranAt (s .c) (eight (λ i. false))) i h
+    ∙ ap (λ b. pick b (getD (s .c) i 0 - 1) (getD (s .c) i 0)) (eight-at false (λ i. false) i h)
+
+idle-gap : (s : State) (i : ℕ) → i < 8 → getD (ran s (eight (λ i. false)) .p) i 0 ≡ getD (s .p) i 0 - 1
+unfolding ran fallen
+idle-gap s i h = eight-at 0 (fallen (s .p)) i h
+
+-- the word of a task that has just been released, but for the run
+word-new : (t : Table) (i : ℕ) → i < 8 → getD (wordsOf (ran (released t start 255) (eight (λ i. false)))) i 0 ≡ getD (t .work) i 0 + 256 * (getD (t .gap) i 0 - 1)
+word-new t i h =
+    words-at (ran (released t start 255) (eight (λ i. false))) i h
+    ∙ ap₂ (λ c p. c + 256 * p)
+    (idle-work (released t start 255) i h ∙ work-on t start 255 i h (full i h))
+    (idle-gap (released t start 255) i h ∙ ap (λ p. p - 1) (gap-on t start 255 i h (full i h)))
+
+module _ (t : Table) (v : List ℕ) (mask : ℕ) (bytes : TableBytes t) (words : WordList v) where
+  -- the state after the release
+  abbrev u : State
+  u = released t (stateOf v) mask
+
+  work-old : (i : ℕ) → i < 8 → bit mask i ≡ false → getD (u .c) i 0 ≡ getD v i 0 % 256
+  unfolding stateOf
+  work-old i h e = work-off t (stateOf v) mask i h e ∙ eight-at 0 (λ i. getD v i 0 % 256) i h
+
+  gap-old : (i : ℕ) → i < 8 → bit mask i ≡ false → getD (u .p) i 0 ≡ getD v i 0 / 256
+  unfolding stateOf
+  gap-old i h e = gap-off t (stateOf v) mask i h e ∙ eight-at 0 (λ i. getD v i 0 / 256) i h
+
+  work-byte : (i : ℕ) → i < 8 → getD (u .c) i 0 < 256
+  work-byte i h =
+      by-bool (bit mask i)
+      (λ e. omega (arith, work-on t (stateOf v) mask i h e, bytes .work i h))
+      (λ e. rw (work-old i h e) (omega arith))
+
+  gap-byte : (i : ℕ) → i < 8 → Fits w8 (getD (u .p) i 0)
+  gap-byte i h =
+      by-bool (bit mask i)
+      (λ e. rw (gap-on t (stateOf v) mask i h e) (bytes .gap i h))
+      (λ e. rw (gap-old i h e) (record { fits = omega (arith, words .word i h) }))
+
+  place-bytes : (i : ℕ) → i < 8 → Bytes t u i
+  place-bytes i h = record { deadline = bytes .deadline i h; gap = bytes .gap i h; p = gap-byte i h }
+
+  -- the place and the word selected for a task
+  abbrev places : ℕ → ℕ
+  places = selected (tickerOf t .bits) mask (preparedBy (tickerOf t) v .place) (tickerOf t .newplace)
+
+  abbrev lasting : ℕ → ℕ
+  lasting = selected (tickerOf t .bits) mask (preparedBy (tickerOf t) v .word) (tickerOf t .newword)
+
+  -- the place is that of the state after the release
+  place-at : (i : ℕ) → i < 8 → places i ≡ place t u i
+  unfolding tickerOf preparedBy
+  place-at i h =
+      by-bool (bit mask i)
+      (λ e.
+      selected-new mask (preparedBy (tickerOf t) v .place) (tickerOf t .newplace) i h e
+      ∙ eight-at 0 (place t (released t start 255)) i h
+      ∙ place-same t (released t start 255) u i
+      (work-on t start 255 i h (full i h) ∙ sym (work-on t (stateOf v) mask i h e))
+      (gap-on t start 255 i h (full i h) ∙ sym (gap-on t (stateOf v) mask i h e)))
+      (λ e.
+      selected-old mask (preparedBy (tickerOf t) v .place) (tickerOf t .newplace) i h e
+      ∙ eight-at 0 (λ i. oldPlace (tickerOf t .counts) (getD (tickerOf t .kept) i 0) (getD (tickerOf t .base) i 0) (getD v i 0)) i h
+      ∙ ap₂ (λ x y. oldPlace (tickerOf t .counts) x y (getD v i 0))
+      (eight-at 0 (λ i. pick (notPreempted t) (getD (t .work) i 0) 0) i h)
+      (eight-at 0 (λ i. shifted (ltb (t .policy) 2) (getD (t .deadline) i 0) (getD (t .gap) i 0) 0 * 8 + i) i h)
+      ∙ place-old t u i (getD v i 0) h bytes (words .word i h) (work-old i h e) (gap-old i h e))
+
+  -- the word is that of its two numbers, but for the run
+  word-at : (i : ℕ) → i < 8 → lasting i ≡ getD (u .c) i 0 + 256 * (getD (u .p) i 0 - 1)
+  unfolding tickerOf preparedBy oldWord
+  word-at i h =
+      by-bool (bit mask i)
+      (λ e.
+      selected-new mask (preparedBy (tickerOf t) v .word) (tickerOf t .newword) i h e
+      ∙ word-new t i h
+      ∙ rw (work-on t (stateOf v) mask i h e, gap-on t (stateOf v) mask i h e))
+      (λ e.
+      selected-old mask (preparedBy (tickerOf t) v .word) (tickerOf t .newword) i h e
+      ∙ eight-at 0 (λ i. oldWord (getD v i 0)) i h
+      ∙ rw (work-old i h e, gap-old i h e))
+
+  -- the tasks taken are those that run
+  taken-at : (i : ℕ) → i < 8 → taken (eight places) (t .m) i ≡ runs t u i
+  taken-at i h =
+      ap (λ l. taken l (t .m) i) (eight-same places (place t u) place-at)
+      ∙ taken-runs t u place-bytes i h
+
+  ticked-at :
+      (i : ℕ) → i < 8
+      → getD (tickedBy (tickerOf t) (preparedBy (tickerOf t) v) mask) i 0
+      ≡ getD (u .c) i 0 + 256 * (getD (u .p) i 0 - 1) - pick (runs t u i) 1 0
+  unfolding tickedBy lowered tickerOf
+  ticked-at i h =
+      eight-at 0 (λ i. getD (eight lasting) i 0 - pick (taken (eight places) (t .m) i) 1 0) i h
+      ∙ ap₂ (λ w r. w - pick r 1 0)
+      (eight-at 0 lasting i h ∙ word-at i h)
+      (taken-at i h)
+
+  -- LAW: the state of the words after a tick is the state after the tick of the words' state
+  pub ticker-after : stateOf (tickedBy (tickerOf t) (preparedBy (tickerOf t) v) mask) ≡ after t (stateOf v) mask
+  unfolding stateOf after ran ranAt fallen chosen
+  ticker-after =
+      state-same
+      (eight-same (λ i. getD (tickedBy (tickerOf t) (preparedBy (tickerOf t) v) mask) i 0 % 256) (ranAt (u .c) (chosen t u)) (λ i h.
+      ap (λ w. w % 256) (ticked-at i h)
+      ∙ word-low (runs t u i) (getD (u .c) i 0) (getD (u .p) i 0 - 1) (work-byte i h) (runs-ready t u i)
+      ∙ ap (λ r. pick r (getD (u .c) i 0 - 1) (getD (u .c) i 0)) (sym (eight-at false (runs t u) i h))))
+      (eight-same (λ i. getD (tickedBy (tickerOf t) (preparedBy (tickerOf t) v) mask) i 0 / 256) (fallen (u .p)) (λ i h.
+      ap (λ w. w / 256) (ticked-at i h)
+      ∙ word-high (runs t u i) (getD (u .c) i 0) (getD (u .p) i 0 - 1) (work-byte i h) (runs-ready t u i)))
+
+-- LAW: a tick of any state by its words
+pub ticker-state :
+    (t : Table) (s : State) (mask : ℕ) → TableBytes t → StateBytes s
+    → stateOf (tickedBy (tickerOf t) (preparedBy (tickerOf t) (wordsOf s)) mask) ≡ after t s mask
+ticker-state t s mask b k = ticker-after t (wordsOf s) mask b (words-fit s k) ∙ ap (λ x. after t x mask) (words-state s k)

@@ -1,0 +1,17 @@
+use Rattle.tasks.specs.Ticker.{preparedBy}
+use borrow.Author.Needs.{needs}
+use Rattle.tasks.proofs.ticker.Ticker.prepare.Statement.{statement}
+use Rattle.tasks.proofs.ticker.Ticker.prepare.Tie as tie
+
+old-places-requires : tie.Need-old-places-requires
+old-places-requires c κs = search needs
+
+old-words-requires : tie.Need-old-words-requires
+old-words-requires c κs = search needs
+
+returns : tie.Need-returns
+unfolding preparedBy
+returns c = λ k. record { place = c .before .old-places .ensures k; word = c .old-words .ensures k }
+
+pub prepare-spec : {M : Type 1} → statement M
+prepare-spec = tie.close (tie.spec old-places-requires old-words-requires returns)

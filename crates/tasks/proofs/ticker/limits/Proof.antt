@@ -1,0 +1,58 @@
+use Prim.Native.Nat.{_≤_, _-_}
+use mathlib.Core.Path.{refl}
+use lib.Dec.{ltb}
+use native.Mathlib.Omega.{arith}
+use Rattle.tasks.specs.Lists.{pick}
+use Rattle.tasks.proofs.Fill.{Filled, filled-start, filled-store, filled-end}
+use borrow.Author.Needs.{needs}
+use Rattle.tasks.proofs.ticker.limits.Statement.{statement}
+use Rattle.tasks.proofs.ticker.limits.Tie as tie
+
+abbrev Inv-loop : tie.InvT-loop
+Inv-loop n out₀ i₀ out i = (i ≤ 8) × Filled 0 (λ i. pick (ltb i n) 256 0) out i
+
+abbrev μ-loop : tie.MeasureT-loop
+μ-loop n out₀ i₀ out i = 8 - i
+
+cast-n : tie.Need-cast-n Inv-loop μ-loop
+cast-n c = search needs
+
+loop-holds : tie.Need-loop-holds Inv-loop μ-loop
+loop-holds c = (omega arith, filled-start refl)
+
+either16-requires : tie.Need-either16-requires Inv-loop μ-loop
+either16-requires c κs = search needs
+
+mul-out : tie.Need-mul-out Inv-loop μ-loop
+mul-out c = search needs
+
+array-write-out : tie.Need-array-write-out Inv-loop μ-loop
+array-write-out c = search needs
+
+add-i : tie.Need-add-i Inv-loop μ-loop
+add-i c = search needs
+
+loop-less : tie.Need-loop-less Inv-loop μ-loop
+loop-less c = search needs
+
+loop-again : tie.Need-loop-again Inv-loop μ-loop
+loop-again c = (omega arith, filled-store (c .before .before .loop .inv .1) (omega arith) (c .either16 .ensures))
+
+returns : tie.Need-returns Inv-loop μ-loop
+returns c = filled-end (c .before .loop .inv .1) (c .loop-test .left)
+
+pub limits-spec : {M : Type 1} → statement M
+limits-spec =
+    tie.close
+    (tie.spec
+    Inv-loop
+    μ-loop
+    cast-n
+    loop-holds
+    either16-requires
+    mul-out
+    array-write-out
+    add-i
+    loop-less
+    loop-again
+    returns)

@@ -1,0 +1,34 @@
+use Prim.Native.Nat.{_/_}
+use mathlib.Core.Path.{_∙_}
+use lib.Bits.{and-le-l}
+use native.Mathlib.Omega.{arith}
+use Rattle.tasks.specs.Ticker.{oldPlace}
+use borrow.Author.Needs.{needs}
+use Rattle.tasks.proofs.ticker.old_place.Statement.{statement}
+use Rattle.tasks.proofs.ticker.old_place.Tie as tie
+
+mul-wrapping-add-u16 : tie.Need-mul-wrapping-add-u16
+mul-wrapping-add-u16 c = record { fits = omega (arith, and-le-l (c .args .w / 256) (c .args .counts)) }
+
+wrapping-add-u16-requires : tie.Need-wrapping-add-u16-requires
+wrapping-add-u16-requires c κs = search needs
+
+either16-requires : tie.Need-either16-requires
+either16-requires c κs = search needs
+
+either16-requires-2 : tie.Need-either16-requires-2
+either16-requires-2 c κs = search needs
+
+returns : tie.Need-returns
+unfolding oldPlace
+returns c = c .either162 .ensures ∙ rw (c .before .either16 .ensures, c .before .before .wrapping-add-u16 .ensures)
+
+pub old-place-spec : {M : Type 1} → statement M
+old-place-spec =
+    tie.close
+    (tie.spec
+    mul-wrapping-add-u16
+    wrapping-add-u16-requires
+    either16-requires
+    either16-requires-2
+    returns)

@@ -1,0 +1,72 @@
+-- Many ticks with one table, on states in words. No part of the paper's model: the contracts of src/ticker.rt cite it, and
+-- proofs/Ticking.antt shows that it gives the state after a tick of Tick.antt.
+use Prim.Native.Nat.{ℕ, _+_, _-_, _*_, _/_, _%_, _^_}
+use mathlib.Core.List.{List}
+use mathlib.Core.Bool.{false}
+use lib.Bits.{bitAnd}
+use lib.ListN.{getD}
+use lib.Dec.{eqb, ltb}
+use Rattle.tasks.specs.Lists.{eight, pick, byteOf}
+use Rattle.tasks.specs.State.{start, notPreempted}
+use Rattle.tasks.specs.Tick.{released, ran}
+use Rattle.tasks.specs.Places.{shifted, place, taken}
+use Rattle.tasks.specs.Words.{wordsOf}
+use Rattle.tasks.specs.declared.table.Table.{Table}
+use Rattle.tasks.specs.declared.ticker.Prepared.{Prepared}
+use Rattle.tasks.specs.declared.ticker.Ticker.{Ticker}
+
+-- a table made ready; what a release leaves of a task is read off a state in which every task has just been released
+unfoldable pub tickerOf : Table → Ticker
+tickerOf t =
+    record {
+      bits = eight (λ i. 2 ^ i);
+      kept = eight (λ i. pick (notPreempted t) (getD (t .work) i 0) 0);
+      base = eight (λ i. shifted (ltb (t .policy) 2) (getD (t .deadline) i 0) (getD (t .gap) i 0) 0 * 8 + i);
+      newplace = eight (place t (released t start 255));
+      newword = wordsOf (ran (released t start 255) (eight (λ i. false)));
+      limit = eight (λ i. pick (ltb i (t .n)) 256 0);
+      counts = pick (ltb (t .policy) 2) 0 255;
+      m = t .m;
+    }
+
+-- ---- a state made ready
+
+-- the place of a task with word w that is not released
+unfoldable pub oldPlace : ℕ → ℕ → ℕ → ℕ → ℕ
+oldPlace counts kept base w =
+    pick (ltb 0 (w % 256)) (pick (ltb (w % 256) kept) 0 ((bitAnd (w / 256) counts * 8 + base) % 65536)) 65535
+
+-- its word after the tick, but for its run
+unfoldable pub oldWord : ℕ → ℕ
+oldWord w = w % 256 + 256 * (w / 256 - 1)
+
+unfoldable pub preparedBy : Ticker → List ℕ → Prepared
+preparedBy k v =
+    record {
+      place = eight (λ i. oldPlace (k .counts) (getD (k .kept) i 0) (getD (k .base) i 0) (getD v i 0));
+      word = eight (λ i. oldWord (getD v i 0));
+    }
+
+-- ---- a tick
+
+-- the old number of task i where the mask does not release it, else the new one
+unfoldable pub selected : List ℕ → ℕ → List ℕ → List ℕ → ℕ → ℕ
+selected bits mask old new i = pick (eqb (bitAnd mask (getD bits i 0)) 0) (getD old i 0) (getD new i 0)
+
+-- the words with those of the tasks that run lowered
+unfoldable pub lowered : List ℕ → List ℕ → ℕ → List ℕ
+lowered places words m = eight (λ i. getD words i 0 - pick (taken places m i) 1 0)
+
+-- the words after a tick
+unfoldable pub tickedBy : Ticker → Prepared → ℕ → List ℕ
+tickedBy k r mask =
+    lowered
+    (eight (selected (k .bits) mask (r .place) (k .newplace)))
+    (eight (selected (k .bits) mask (r .word) (k .newword)))
+    (k .m)
+
+-- ---- what may be released
+
+-- the mask of all tasks that may be released: those whose word is below their limit
+unfoldable pub freeBy : Ticker → List ℕ → ℕ
+freeBy k v = byteOf (λ i. ltb (getD v i 0) (getD (k .limit) i 0))

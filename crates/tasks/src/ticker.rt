@@ -1,0 +1,220 @@
+// Many ticks with one table, on states in words.
+ghost use mathlib.Core.Path.{_≡_};
+ghost use Prim.Native.Nat.{_+_, _-_, _*_, _<_, _≤_};
+ghost use lib.ListN.{getD};
+ghost use lib.Dec.{ltb};
+ghost use Rattle.tasks.specs.Lists.{eight, pick};
+ghost use Rattle.tasks.specs.State.{notPreempted};
+ghost use Rattle.tasks.specs.Places.{shifted};
+ghost use Rattle.tasks.specs.Ticker.{tickerOf, oldPlace, oldWord, preparedBy, selected, lowered, tickedBy, freeBy};
+use crate::places::ranks;
+use crate::places::shifted;
+use crate::places::wide;
+use crate::state::State;
+use crate::table::Table;
+
+// A table made ready for many ticks. For each task: its bit in a mask; the work below which its job keeps its processor; its place but
+// for the ticks until its release; its place and its word in a tick that releases it; and the limit below which its word says that it
+// may be released. Then: 255 where those ticks count, and m.
+pub struct Ticker {
+    bits: [u16; 8],
+    kept: [u16; 8],
+    base: [u16; 8],
+    newplace: [u16; 8],
+    newword: [u16; 8],
+    limit: [u16; 8],
+    counts: u16,
+    m: u16,
+}
+
+// A state made ready for many ticks: for each task its place and its word in a tick that does not release it.
+pub struct Prepared {
+    place: [u16; 8],
+    word: [u16; 8],
+}
+
+// x where b holds, else y.
+fn either16(b: bool, x: u16, y: u16) -> u16
+    ensures { λ r. ⌜ r ≡ pick b x y ⌝ }
+{
+    if b { x } else { y }
+}
+
+// x less y, and 0 where y is larger.
+fn less(x: u16, y: u16) -> u16
+    ensures { λ r. ⌜ r ≡ x - y ⌝ }
+{
+    if y < x { x - y } else { 0 }
+}
+
+fn old_place(counts: u16, kept: u16, base: u16, w: u16) -> u16
+    ensures { λ r. ⌜ r ≡ oldPlace counts kept base w ⌝ }
+{
+    let c = w % 256;
+    let p = w / 256;
+    let place = std::num::wrapping_add_u16((p & counts) * 8, base);
+    either16(0 < c, either16(c < kept, 0, place), 65535)
+}
+
+fn old_word(w: u16) -> u16
+    ensures { λ r. ⌜ r ≡ oldWord w ⌝ }
+{
+    w % 256 + 256 * less(w / 256, 1)
+}
+
+fn old_words(v: [u16; 8]) -> [u16; 8]
+    ensures { λ r. ⌜ r ≡ eight (λ i. oldWord (getD v i 0)) ⌝ }
+{
+    let mut out = [0u16; 8];
+    let mut i: usize = 0;
+    while i < 8 {
+        out[i] = old_word(v[i]);
+        i += 1;
+    }
+    out
+}
+
+// The words with those of the tasks that run lowered.
+fn lowered(places: [u16; 8], words: [u16; 8], m: u16) -> [u16; 8]
+    ensures { λ r. ⌜ r ≡ lowered places words m ⌝ }
+{
+    let ranks = ranks(places);
+    let mut out = [0u16; 8];
+    let mut i: usize = 0;
+    while i < 8 {
+        let x = places[i];
+        let run = (x < 65535) & ((x == 0) | (ranks[i] < m));
+        out[i] = less(words[i], run as u16);
+        i += 1;
+    }
+    out
+}
+
+impl Ticker {
+    fn old_places(self, v: [u16; 8]) -> [u16; 8]
+        ensures { λ r. ⌜ r ≡ eight (λ i. oldPlace (self .counts) (getD (self .kept) i 0) (getD (self .base) i 0) (getD v i 0)) ⌝ }
+    {
+        let mut out = [0u16; 8];
+        let mut i: usize = 0;
+        while i < 8 {
+            out[i] = old_place(self.counts, self.kept[i], self.base[i], v[i]);
+            i += 1;
+        }
+        out
+    }
+
+    // A state made ready.
+    pub fn prepare(self, v: [u16; 8]) -> Prepared
+        ensures { λ r. ⌜ r ≡ preparedBy self v ⌝ }
+    {
+        let place = self.old_places(v);
+        let word = old_words(v);
+        Prepared { place, word }
+    }
+
+    // For each task the old number where the mask does not release it, else the new one.
+    fn selected(self, mask: u16, old: [u16; 8], new: [u16; 8]) -> [u16; 8]
+        ensures { λ r. ⌜ r ≡ eight (selected (self .bits) mask old new) ⌝ }
+    {
+        let mut out = [0u16; 8];
+        let mut i: usize = 0;
+        while i < 8 {
+            out[i] = either16(mask & self.bits[i] == 0, old[i], new[i]);
+            i += 1;
+        }
+        out
+    }
+
+    // The words after a tick of a state made ready: release, choose, run.
+    pub fn after(self, state: Prepared, mask: u8) -> [u16; 8]
+        ensures { λ r. ⌜ r ≡ tickedBy self state mask ⌝ }
+    {
+        let m = wide(mask);
+        let place = state.place;
+        let newplace = self.newplace;
+        let places = self.selected(m, place, newplace);
+        let word = state.word;
+        let newword = self.newword;
+        let words = self.selected(m, word, newword);
+        lowered(places, words, self.m)
+    }
+
+    // The weight w of task i's bit where the task may be released, else 0.
+    fn weight(self, v: [u16; 8], i: usize, w: u8) -> u8
+        requires { ⌜ i < 8 ⌝ }
+        ensures { λ r. ⌜ (r ≡ pick (ltb (getD v i 0) (getD (self .limit) i 0)) w 0) × (r ≤ w) ⌝ }
+    {
+        if v[i] < self.limit[i] { w } else { 0 }
+    }
+
+    // The mask of all tasks that may be released.
+    pub fn free(self, v: [u16; 8]) -> u8
+        ensures { λ r. ⌜ r ≡ freeBy self v ⌝ }
+    {
+        let a = self.weight(v, 0, 1) + self.weight(v, 1, 2);
+        let b = self.weight(v, 2, 4) + self.weight(v, 3, 8);
+        let c = self.weight(v, 4, 16) + self.weight(v, 5, 32);
+        let d = self.weight(v, 6, 64) + self.weight(v, 7, 128);
+        a + b + c + d
+    }
+}
+
+fn kept(t: Table) -> [u16; 8]
+    ensures { λ r. ⌜ r ≡ eight (λ i. pick (notPreempted t) (getD (t .work) i 0) 0) ⌝ }
+{
+    let policy = t.policy;
+    let stays = (policy == 0) | (policy == 2);
+    let mut out = [0u16; 8];
+    let mut i: usize = 0;
+    while i < 8 {
+        out[i] = either16(stays, wide(t.work[i]), 0);
+        i += 1;
+    }
+    out
+}
+
+fn bases(t: Table) -> [u16; 8]
+    ensures { λ r. ⌜ r ≡ eight (λ i. shifted (ltb (t .policy) 2) (getD (t .deadline) i 0) (getD (t .gap) i 0) 0 * 8 + i) ⌝ }
+{
+    let fixed = t.policy < 2;
+    let mut out = [0u16; 8];
+    let mut i: usize = 0;
+    while i < 8 {
+        out[i] = shifted(fixed, t.deadline[i], t.gap[i], 0) * 8 + (i as u16);
+        i += 1;
+    }
+    out
+}
+
+fn limits(t: Table) -> [u16; 8]
+    ensures { λ r. ⌜ r ≡ eight (λ i. pick (ltb i (t .n)) 256 0) ⌝ }
+{
+    let n = t.n as usize;
+    let mut out = [0u16; 8];
+    let mut i: usize = 0;
+    while i < 8 {
+        out[i] = either16(i < n, 256, 0);
+        i += 1;
+    }
+    out
+}
+
+impl Table {
+    // The table made ready.
+    pub fn ticker(self) -> Ticker
+        ensures { λ r. ⌜ r ≡ tickerOf self ⌝ }
+    {
+        let fresh = State::start().release(self, 255);
+        let idle = fresh.run([false; 8]);
+        Ticker {
+            bits: [1, 2, 4, 8, 16, 32, 64, 128],
+            kept: kept(self),
+            base: bases(self),
+            newplace: fresh.places(self),
+            newword: idle.words(),
+            limit: limits(self),
+            counts: either16(self.policy < 2, 0, 255),
+            m: wide(self.m),
+        }
+    }
+}
