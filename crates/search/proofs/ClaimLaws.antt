@@ -1,9 +1,8 @@
--- From what the parts of the search leave to the claim: the verdict with its slots cleared, the refusals, the packed number. Assumes nothing.
+-- From what the parts of the search leave to the claim: the verdict with its slots cleared, the refusals. Assumes nothing.
 use Prim.Native.Nat.{ℕ, zero, suc, _*_, _/_, _≤_, _<_, min}
 use mathlib.Core.Path.{_≡_, refl, ap, _∙_}
 use mathlib.Core.List.{List}
 use native.Mathlib.Omega.{arith}
-use native.Mathlib.Decide.{decLt}
 use native.Mathlib.Nat.{min-le-left, min-le-right}
 use lib.ListN.{length, getD, replicate, length-replicate}
 use borrow.Author.Tests.{eq-eqb, ne-eqb, lt-ltb, le-ltb}
@@ -16,11 +15,10 @@ use Rattle.levels.specs.Verdict.{Answer}
 use Rattle.levels.specs.Verdict.Answer.{Unsafe, Safe, NoRoom}
 use Rattle.levels.specs.Slots.{countOf}
 use Rattle.levels.proofs.Slots.{rule-same, stored-same, complete-same}
-use Rattle.levels.proofs.Shortest.{unsafe-room}
 use Rattle.search.specs.System.{system}
 use Rattle.search.specs.Slot.{Cleared}
 use Rattle.search.specs.Claim.{slotsIn, spacesRefusal, tableRefusal, afterReading, sheetRefusal, Figures, figures, verdictFigures, refusalFigures, Searched, Found, Search}
-use Rattle.search.specs.Keeping.{Spaces, Lent, RanBy, answerOf, Low}
+use Rattle.search.specs.Keeping.{Spaces, Lent, RanBy, answerOf}
 use Rattle.search.specs.declared.run.SearchAnswer.{SearchAnswer}
 
 -- the figures of the code's answer for a verdict
@@ -137,22 +135,3 @@ lent-spaces {t} {w} {trace} {heads} {k} {n} x e h =
       buckets = rw e (omega (arith, length-replicate {A = ℕ} n 0));
       empty = λ b. rw e (zeros n b);
     }
-
--- ---- the packed number
-
--- a verdict's figures are at most K
-low-verdict : {t : Table} {w w′ trace trace′ : List ℕ} (v : Answer) → Searched t w w′ trace trace′ v → Low (verdictFigures v)
-low-verdict {t} {w} {w′} {trace} {trace′} (Unsafe l n) x =
-    record {
-      L = (let a = unsafe-room (system t) (x .verdict) in omega (arith, slots-few w trace));
-      N = λ h. (let a = x .most in omega (arith, slots-few w trace));
-    }
-low-verdict {t} {w} {w′} {trace} {trace′} (Safe n) x = record { L = omega arith; N = λ h. (let a = x .most in omega (arith, slots-few w trace)) }
-low-verdict {t} {w} {w′} {trace} {trace′} (NoRoom n) x = record { L = omega arith; N = λ h. (let a = x .most in omega (arith, slots-few w trace)) }
-
-pub search-low : {q : ℕ} {t : Table} {w w′ trace trace′ : List ℕ} {f : Figures} → Search q t w w′ trace trace′ f → Low f
-search-low {q} x =
-    elim (decLt 0 q) [
-      | yes h ↦ rw (x .refused h .0) (record { L = omega arith; N = λ l. absurd (omega arith) })
-      | no h ↦ (let y = x .found (omega arith) in rw (y .is) (low-verdict (y .answer) (y .searched)))
-    ]

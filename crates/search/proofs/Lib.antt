@@ -16,4 +16,3 @@ pub mod TraceLaws
 pub mod RunLaws
 pub mod SheetLaws
 pub mod ClaimLaws
-pub mod CallLaws

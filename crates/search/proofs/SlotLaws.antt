@@ -7,11 +7,13 @@ use native.Mathlib.Nat.{add-assoc, div-div-eq-div-mul, div-add-mod', mod-eq-of-l
 use native.Mathlib.Numerals.{add-one}
 use lib.ListN.{length, getD, take, drop, set, length-append, length-drop, drop-of-length-le, List·getD-append}
 use lib.Seq.{sets, sets-eq, take-all, drop-drop, length-take-le, getD-take, getD-append-add, drop-at}
+use borrow.Author.Tests.{lt-ltb, le-ltb}
 use Rattle.tasks.specs.Lists.{eight}
 use Rattle.tasks.specs.declared.state.State.{State}
+use Rattle.tasks.specs.declared.writer.Writing.the-variants as Writing
 use Rattle.tasks.proofs.Fill.{eight-at, filled-end}
 use Rattle.tasks.proofs.Stores.{storing-start, storing-step}
-use Rattle.search.specs.Slot.{fourAt, stateAt, parentAt, maskAt, linkAt, twos, stateBytes, restBytes, linkedBytes}
+use Rattle.search.specs.Slot.{fourAt, stateAt, parentAt, maskAt, linkAt, twos, stateBytes, stateWriting, stateSpace, restBytes, linkedBytes}
 
 -- ---- slot i of w and slot i of w′ agree but for their links
 
@@ -69,6 +71,19 @@ state-length s = twos-length 8 (λ k. getD (s .c) k 0) (λ k. getD (s .p) k 0)
 slot-length : (s : State) (parent mask link : ℕ) → length (linkedBytes s parent mask link) ≡ 24
 unfolding linkedBytes stateBytes
 slot-length s parent mask link = refl
+
+-- a state alone at the front of a space that is long enough
+state-stored : (s : State) (l : List ℕ) → 16 ≤ length l → sets l 0 (stateBytes s) ≡ stateBytes s ++ drop 16 l
+unfolding stateBytes
+state-stored s l h = sets-eq (stateBytes s) l 0 h
+
+pub space-short : (s : State) (out : List ℕ) → length out < 16 → (stateWriting out ≡ Writing.Refused 12) × (stateSpace s out ≡ out)
+unfolding stateSpace
+space-short s out h = let e = lt-ltb (length out) 16 h in (rw e, rw e)
+
+pub space-room : (s : State) (out : List ℕ) → 16 ≤ length out → (stateWriting out ≡ Writing.Written 16) × (stateSpace s out ≡ sets out 0 (stateBytes s))
+unfolding stateSpace
+space-room s out h = let e = le-ltb (length out) 16 h in (rw e, rw e (sym (state-stored s out h)))
 
 -- what the writer leaves
 pub put-end : (l₀ l : List ℕ) (s : State) (parent mask link : ℕ) → 24 ≤ length l₀ → l ≡ sets l₀ 0 (stateBytes s)

@@ -2,7 +2,7 @@
 -- This is the file to believe, with Verdict.antt and Slots.antt of `levels`, System.antt, and the slot's bytes in Slot.antt.
 use mathlib.Core.Path.{_≡_}
 use mathlib.Core.List.{List}
-use Prim.Native.Nat.{ℕ, _+_, _*_, _/_, _^_, _≤_, _<_, min}
+use Prim.Native.Nat.{ℕ, _*_, _/_, _≤_, _<_, min}
 use lib.Dec.{eqb, ltb}
 use lib.ListN.{length, take, drop}
 use Rattle.tasks.specs.Lists.{pick}
@@ -66,10 +66,6 @@ verdictFigures (NoRoom n) = record { kind = 3; L = 0; N = n }
 abbrev pub refusalFigures : ℕ → Figures
 refusalFigures r = record { kind = 0; L = 0; N = r }
 
--- "kind × 2^48 + L × 2^24 + N"
-unfoldable pub packed : Figures → ℕ
-packed f = f .kind * 2 ^ 48 + f .L * 2 ^ 24 + f .N
-
 -- ---- the one claim
 
 -- a verdict of a table, from what the two spaces held to what they hold. K is that of the work space
@@ -110,11 +106,3 @@ TableSearch t work work′ trace trace′ f = Search (tableRefusal t work trace)
 -- the search of a sheet
 abbrev pub SheetSearch : List ℕ → List ℕ → List ℕ → List ℕ → List ℕ → Figures → Type 0
 SheetSearch sheet work work′ trace trace′ f = Search (sheetRefusal sheet work trace) (sheetOf sheet .table) work work′ trace trace′ f
-
--- the C call: the number that it returns has the figures of the search of the sheet, each in its own bits
-pub record Called (sheet work work′ trace trace′ : List ℕ) (number : ℕ) : Type 0 where
-  pub answer : Figures
-  pub search : SheetSearch sheet work work′ trace trace′ answer
-  pub is : number ≡ packed answer
-  pub L-fits : answer .L < 2 ^ 24
-  pub N-fits : answer .N < 2 ^ 24

@@ -14,7 +14,7 @@ use Rattle.levels.specs.Verdict.Answer.{Unsafe, Safe, NoRoom}
 use Rattle.levels.specs.Verdict as levels
 use Rattle.levels.specs.Slots.{SlotRule, Stored, Complete, countOf, masksOf}
 use Rattle.levels.specs.Levels.{trail, Before, Row, Hunting, Standing, Filling}
-use Rattle.search.specs.Claim.{slotsIn, Figures}
+use Rattle.search.specs.Claim.{slotsIn}
 use Rattle.search.specs.System.{step, system}
 use Rattle.search.specs.Slot.{stateAt, parentAt, maskAt, Indexed, Pushed}
 use Rattle.search.specs.Masks.{submask}
@@ -225,10 +225,3 @@ pub record RanBy (t : Table) (w w′ trace trace′ : List ℕ) (k : ℕ) (r : S
   pub answer : Answer
   pub is : r ≡ answerOf answer
   pub ran : Ran t w w′ trace trace′ k answer
-
--- ---- the packed number
-
--- a verdict's figures are low
-pub record Low (f : Figures) : Type 0 where
-  pub L : f .L ≤ 1000000
-  pub N : 0 < f .kind → f .N ≤ 1000000

@@ -4,11 +4,13 @@ use mathlib.Core.Bool.{Bool, true, false, _&&_}
 use mathlib.Core.List.{List, [], _∷_, _++_}
 use Prim.Native.Nat.{ℕ, zero, suc, _+_, _-_, _*_, _/_, _%_, _<_, _≤_}
 use lib.Bits.{bitAnd}
-use lib.Dec.{eqb}
+use lib.Dec.{eqb, ltb}
 use lib.ListN.{length, getD, take, drop, set}
-use Rattle.tasks.specs.Lists.{eight}
+use Rattle.tasks.specs.Lists.{eight, pick}
 use Rattle.tasks.specs.Tick.{bit}
 use Rattle.tasks.specs.declared.state.State.{State}
+use Rattle.tasks.specs.declared.writer.Writing.{Writing}
+use Rattle.tasks.specs.declared.writer.Writing.the-variants as Writing
 use Rattle.levels.specs.Index.{Index}
 use Rattle.levels.specs.Verdict.{Holds}
 use Rattle.search.specs.declared.index.Key.{Key}
@@ -48,6 +50,14 @@ twos (suc k) f g = f 0 ∷ g 0 ∷ twos k (λ j. f (suc j)) (λ j. g (suc j))
 
 unfoldable pub stateBytes : State → List ℕ
 stateBytes s = twos 8 (λ k. getD (s .c) k 0) (λ k. getD (s .p) k 0)
+
+-- a state written alone, to a space that may be too short for it (12)
+abbrev pub stateWriting : List ℕ → Writing
+stateWriting out = pick (ltb (length out) 16) (Writing.Refused 12) (Writing.Written 16)
+
+-- .. and the space afterwards: the state's bytes at its front, later bytes as they were; a refusal leaves all
+unfoldable pub stateSpace : State → List ℕ → List ℕ
+stateSpace s out = pick (ltb (length out) 16) out (stateBytes s ++ drop 16 out)
 
 -- what follows the state: the parent, the mask, and three bytes more
 abbrev pub restBytes : ℕ → ℕ → ℕ → ℕ → ℕ → List ℕ

@@ -1,9 +1,9 @@
-// The public calls: the search of a table, the search of a sheet, and the C call.
+// The public calls: the search of a table and the search of a sheet.
 ghost use mathlib.Core.Path.{_≡_};
-ghost use Prim.Native.Nat.{_/_, _^_, _<_, min};
+ghost use Prim.Native.Nat.{_/_, min};
 ghost use Rattle.tasks.specs.Table.{tableFault};
-ghost use Rattle.search.specs.Claim.{slotsIn, spacesRefusal, figures, Found, Search, TableSearch, SheetSearch, packed, Called};
-ghost use Rattle.search.specs.Keeping.{Lent, Spaces, Low};
+ghost use Rattle.search.specs.Claim.{slotsIn, spacesRefusal, figures, Found, Search, TableSearch, SheetSearch};
+ghost use Rattle.search.specs.Keeping.{Lent, Spaces};
 use crate::run::SearchAnswer;
 use crate::run::run_levels;
 use crate::slots::clear_links;
@@ -133,26 +133,4 @@ pub fn search_sheet(sheet: &[u8], work: &mut [u8], trace: &mut [u8]) -> SearchAn
         Reading::Accepted => search_valid(t, work, trace),
         Reading::Refused(number) => SearchAnswer::Refused(number),
     }
-}
-
-// An answer's figures in one number: kind × 2^48 + L × 2^24 + N.
-fn pack(a: SearchAnswer) -> u64
-    requires { ⌜ Low (figures a) ⌝ }
-    ensures { λ r. ⌜ (r ≡ packed (figures a)) × (figures a .L < 2 ^ 24) × (figures a .N < 2 ^ 24) ⌝ }
-{
-    match a {
-        SearchAnswer::Safe(n) => 281474976710656 + (n as u64),
-        SearchAnswer::Unsafe(l, n) => 562949953421312 + 16777216 * (l as u64) + (n as u64),
-        SearchAnswer::NoRoom(n) => 844424930131968 + (n as u64),
-        SearchAnswer::Refused(r) => r as u64,
-    }
-}
-
-// The search of a sheet's table for a C program: the answer's figures in one number.
-#[no_mangle]
-pub extern "C" fn ronchhek_verdict(sheet: &[u8], work: &mut [u8], trace: &mut [u8]) -> u64
-    ensures { λ r. ⌜ Called (now (sheet .entry)) (now (work .entry)) (now (work .exit)) (now (trace .entry)) (now (trace .exit)) r ⌝ }
-{
-    let a = search_sheet(sheet, work, trace);
-    pack(a)
 }

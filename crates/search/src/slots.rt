@@ -5,7 +5,10 @@ ghost use Prim.Native.Nat.{_+_, _*_, _<_, _≤_};
 ghost use lib.ListN.{length, drop};
 ghost use lib.Seq.{sets};
 ghost use Rattle.tasks.specs.Words.{stateOf};
-ghost use Rattle.search.specs.Slot.{four, fourAt, stateAt, parentAt, maskAt, linkAt, stateBytes, linkedBytes, unlinked, Cleared};
+ghost use Rattle.search.specs.Slot.{four, fourAt, stateAt, parentAt, maskAt, linkAt, stateBytes, stateWriting, stateSpace, linkedBytes, unlinked, Cleared};
+ghost use Rattle.tasks.specs.Answers.{writingAnswer};
+use tasks::State;
+use tasks::Writing;
 use tasks::gap_in;
 use tasks::work_in;
 
@@ -89,6 +92,17 @@ pub(crate) fn put_words(part: &mut [u8], v: [u16; 8])
         part[2 * k + 1] = gap_in(v[k]);
         k += 1;
     }
+}
+
+// Writes the sixteen bytes of a state at the front of the space, where it is long enough.
+pub fn write_state(s: State, out: &mut [u8]) -> Writing
+    ensures { λ r. ⌜ (writingAnswer r ≡ writingAnswer (stateWriting (now (out .entry)))) × (now (out .exit) ≡ stateSpace s (now (out .entry))) ⌝ }
+{
+    if out.len() < 16 {
+        return Writing::Refused(12);
+    }
+    put_words(out, s.words());
+    Writing::Written(16)
 }
 
 // Writes a slot, with its link, at the front of the part that is lent.

@@ -85,7 +85,7 @@ fn search_with(sheet: &[u8], work: &mut [u8], trace: &mut [u8], fill: u8) {
 
 // Calls as a C program does, and prints the line.
 fn call_with(sheet: &[u8], work: &mut [u8], trace: &mut [u8]) {
-    let number = search::ronchhek_verdict(sheet, work, trace);
+    let number = ronchhek::ronchhek_verdict(sheet, work, trace);
     text::put(b"call");
     text::long(number);
     text::end();

@@ -2,8 +2,8 @@
 use Rattle.tasks.specs.Replay.{outcomeTick}
 use native.Mathlib.Omega.{arith}
 use borrow.Author.Needs.{needs}
-use Rattle.search.proofs.replays.outcome_number.Statement.{statement}
-use Rattle.search.proofs.replays.outcome_number.Tie as tie
+use Rattle.ronchhek.proofs.replays.outcome_number.Statement.{statement}
+use Rattle.ronchhek.proofs.replays.outcome_number.Tie as tie
 
 enum-told : tie.Need-enum-told
 enum-told c = search needs

@@ -2,10 +2,9 @@
 -- The answer is kind × 2^56 + number × 2^48 + tick: kind 1 Kept, 2 Missed with the tick's number, 0 refused with the refusal's number
 -- and, for 11, the tick's. The state's bytes are those at the front of a slot: c, p of task 1, then task 2 and so on.
 use Prim.Native.Nat.{ℕ, _+_, _*_, _^_}
-use mathlib.Core.Bool.{Bool, _||_}
-use mathlib.Core.List.{List, _++_}
+use mathlib.Core.List.{List}
 use lib.Dec.{ltb, leb}
-use lib.ListN.{length, drop}
+use lib.ListN.{length}
 use Rattle.tasks.specs.Lists.{pick}
 use Rattle.tasks.specs.Sheet.{sheetOf}
 use Rattle.tasks.specs.Replay.{replayed}
@@ -17,49 +16,48 @@ use Rattle.tasks.specs.declared.play.Outcome.{Outcome}
 use Rattle.tasks.specs.declared.play.Outcome.the-variants.{Kept, Missed}
 use Rattle.tasks.specs.declared.play.ReplayAnswer.{ReplayAnswer}
 use Rattle.tasks.specs.declared.play.ReplayAnswer.the-variants.{Played, Refused}
-use Rattle.search.specs.Slot.{stateBytes}
+use Rattle.search.specs.Slot.{stateSpace}
 
 -- a refusal's number, and the tick's
 abbrev pub refusedAt : ℕ → ℕ → ℕ
 refusedAt r tick = r * 2 ^ 48 + tick
 
--- the number of each answer of a replay
+-- the number of each outcome
 abbrev pub outcomeNumber : Outcome → ℕ
 outcomeNumber Kept = 2 ^ 56
 outcomeNumber (Missed k) = 2 * 2 ^ 56 + k
 
-abbrev pub answerNumber : ReplayAnswer → ℕ
-answerNumber (Played o) = outcomeNumber o
-answerNumber (Refused r k) = refusedAt r k
+-- the number of each answer of a replay: 11 comes before 12, which is judged where a state is to be written and its space is
+-- shorter than 16 bytes
+abbrev pub answerNumber : ReplayAnswer → List ℕ → ℕ
+answerNumber (Played o) space = pick (ltb (length space) 16) (refusedAt 12 0) (outcomeNumber o)
+answerNumber (Refused r k) space = refusedAt r k
 
--- the state's space afterwards: a list that was played leaves the sixteen bytes at its front, a refusal leaves all
-abbrev pub answerState : ReplayAnswer → State → List ℕ → List ℕ
-answerState (Played o) s old = stateBytes s ++ drop 16 old
-answerState (Refused r k) s old = old
+-- the space afterwards: a list that was played leaves the sixteen bytes of its state at the front, a refusal leaves all
+abbrev pub answerSpace : ReplayAnswer → State → List ℕ → List ℕ
+answerSpace (Played o) s space = stateSpace s space
+answerSpace (Refused r k) s space = space
 
--- 12: the space is shorter than a state, or the list has more ticks than the answer has room for
-abbrev pub tooSmall : List ℕ → List ℕ → Bool
-tooSmall list state = ltb (length state) 16 || leb (2 ^ 48) (length list)
-
--- the replay of a table
+-- the replay of a table; a list with more ticks than the answer has room for is not played (12)
 unfoldable pub tableNumber : Table → List ℕ → List ℕ → ℕ
-tableNumber t list state = pick (tooSmall list state) (refusedAt 12 0) (answerNumber (replayed t list .answer))
+tableNumber t list space = pick (leb (2 ^ 48) (length list)) (refusedAt 12 0) (answerNumber (replayed t list .answer) space)
 
-unfoldable pub tableState : Table → List ℕ → List ℕ → List ℕ
-tableState t list state = pick (tooSmall list state) state (answerState (replayed t list .answer) (replayed t list .state) state)
+unfoldable pub tableSpace : Table → List ℕ → List ℕ → List ℕ
+tableSpace t list space =
+    pick (leb (2 ^ 48) (length list)) space (answerSpace (replayed t list .answer) (replayed t list .state) space)
 
 -- the sheet's refusals 1 to 8 come first
 abbrev pub ifAccepted : Reading → ℕ → ℕ
 ifAccepted Reading.Accepted n = n
 ifAccepted (Reading.Refused r) n = refusedAt r 0
 
-abbrev pub stateIfAccepted : Reading → List ℕ → List ℕ → List ℕ
-stateIfAccepted Reading.Accepted new old = new
-stateIfAccepted (Reading.Refused r) new old = old
+abbrev pub spaceIfAccepted : Reading → List ℕ → List ℕ → List ℕ
+spaceIfAccepted Reading.Accepted new old = new
+spaceIfAccepted (Reading.Refused r) new old = old
 
 -- the call: the number that it returns, and the space afterwards
 unfoldable pub callNumber : List ℕ → List ℕ → List ℕ → ℕ
-callNumber sheet list state = ifAccepted (sheetOf sheet .answer) (tableNumber (sheetOf sheet .table) list state)
+callNumber sheet list space = ifAccepted (sheetOf sheet .answer) (tableNumber (sheetOf sheet .table) list space)
 
-unfoldable pub callState : List ℕ → List ℕ → List ℕ → List ℕ
-callState sheet list state = stateIfAccepted (sheetOf sheet .answer) (tableState (sheetOf sheet .table) list state) state
+unfoldable pub callSpace : List ℕ → List ℕ → List ℕ → List ℕ
+callSpace sheet list space = spaceIfAccepted (sheetOf sheet .answer) (tableSpace (sheetOf sheet .table) list space) space

@@ -2,12 +2,12 @@
 ghost use mathlib.Core.Path.{_≡_};
 ghost use Prim.Native.Nat.{_<_};
 ghost use Rattle.tasks.specs.Replay.{outcomeTick};
-ghost use Rattle.search.specs.ReplayCall.{refusedAt, outcomeNumber, tableNumber, tableState, callNumber, callState};
-use crate::slots::put_words;
+ghost use Rattle.ronchhek.specs.Replays.{refusedAt, outcomeNumber, tableNumber, tableSpace, callNumber, callSpace};
 use tasks::Outcome;
 use tasks::Reading;
 use tasks::ReplayAnswer;
 use tasks::Table;
+use tasks::Writing;
 
 // 2^48 and 2^56.
 const NUMBER: u64 = 281474976710656;
@@ -33,11 +33,8 @@ fn outcome_number(o: Outcome) -> u64
 
 // Replays a list with a table, and writes the state that a played list ends with.
 fn replay_table(t: Table, list: &[u8], state: &mut [u8]) -> u64
-    ensures { λ r. ⌜ (r ≡ tableNumber t (now (list .entry)) (now (state .entry))) × (now (state .exit) ≡ tableState t (now (list .entry)) (now (state .entry))) ⌝ }
+    ensures { λ r. ⌜ (r ≡ tableNumber t (now (list .entry)) (now (state .entry))) × (now (state .exit) ≡ tableSpace t (now (list .entry)) (now (state .entry))) ⌝ }
 {
-    if state.len() < 16 {
-        return refused_at(12, 0);
-    }
     if 281474976710656 <= list.len() {
         return refused_at(12, 0);
     }
@@ -46,17 +43,17 @@ fn replay_table(t: Table, list: &[u8], state: &mut [u8]) -> u64
     let last = played.state;
     match answer {
         ReplayAnswer::Refused(r, tick) => refused_at(r, tick),
-        ReplayAnswer::Played(o) => {
-            put_words(state, last.words());
-            outcome_number(o)
-        }
+        ReplayAnswer::Played(o) => match search::write_state(last, state) {
+            Writing::Refused(r) => refused_at(r, 0),
+            Writing::Written(_) => outcome_number(o),
+        },
     }
 }
 
 // The replay of a sheet's table.
 #[no_mangle]
 pub extern "C" fn ronchhek_replay(sheet: &[u8], list: &[u8], state: &mut [u8]) -> u64
-    ensures { λ r. ⌜ (r ≡ callNumber (now (sheet .entry)) (now (list .entry)) (now (state .entry))) × (now (state .exit) ≡ callState (now (sheet .entry)) (now (list .entry)) (now (state .entry))) ⌝ }
+    ensures { λ r. ⌜ (r ≡ callNumber (now (sheet .entry)) (now (list .entry)) (now (state .entry))) × (now (state .exit) ≡ callSpace (now (sheet .entry)) (now (list .entry)) (now (state .entry))) ⌝ }
 {
     let read = tasks::read_sheet(sheet);
     let answer = read.answer;

@@ -1,11 +1,11 @@
 -- The sheet is refused, or its table is replayed. Assumes nothing.
-use Rattle.search.specs.ReplayCall.{tableNumber, tableState, callNumber, callState}
+use Rattle.ronchhek.specs.Replays.{tableNumber, tableSpace, callNumber, callSpace}
 use Rattle.tasks.specs.declared.sheet.Sheet.{Sheet}
 use Rattle.tasks.proofs.Answers.{sheet-is}
 use mathlib.Core.Path.{sym, ap, _∙_}
 use borrow.Author.Needs.{needs}
-use Rattle.search.proofs.replays.ronchhek_replay.Statement.{statement}
-use Rattle.search.proofs.replays.ronchhek_replay.Tie as tie
+use Rattle.ronchhek.proofs.replays.ronchhek_replay.Statement.{statement}
+use Rattle.ronchhek.proofs.replays.ronchhek_replay.Tie as tie
 
 read-sheet-requires : tie.Need-read-sheet-requires
 read-sheet-requires c κs = search needs
@@ -23,7 +23,7 @@ replay-table-requires : tie.Need-replay-table-requires
 replay-table-requires c κs = search needs
 
 returns : tie.Need-returns
-unfolding callNumber callState
+unfolding callNumber callSpace
 returns c =
     let e = ap (λ (x : Sheet). x .answer) (sym (sheet-is (c .before .before .before .before .before .read-sheet .ensures))) ∙ c .before .before .answer .given .1 in
     (c .refused-at .ensures ∙ rw e, rw e)
@@ -32,13 +32,13 @@ same-length : tie.Need-same-length
 same-length c = search needs
 
 returns-2 : tie.Need-returns-2
-unfolding callNumber callState
+unfolding callNumber callSpace
 returns-2 c =
     let a = c .before .before .before .before .before .before .before .before .before .before .before .args in
     let r = sheet-is (c .before .before .before .before .before .before .before .read-sheet .ensures) in
     let e = ap (λ (x : Sheet). x .answer) (sym r) ∙ c .before .before .before .before .enum-told .given .1 in
     let t-is = ap (λ (x : Sheet). x .table) r in
-    (rw e (c .before .before .replay-table .ensures .0 ∙ ap (λ t. tableNumber t (a .list .now) (a .state .now)) t-is), rw e (c .before .before .replay-table .ensures .1 ∙ ap (λ t. tableState t (a .list .now) (a .state .now)) t-is))
+    (rw e (c .before .before .replay-table .ensures .0 ∙ ap (λ t. tableNumber t (a .list .now) (a .state .now)) t-is), rw e (c .before .before .replay-table .ensures .1 ∙ ap (λ t. tableSpace t (a .list .now) (a .state .now)) t-is))
 
 pub ronchhek-replay-spec : {M : Type 1} → statement M
 ronchhek-replay-spec =

@@ -1,10 +1,10 @@
 -- The figures of the search of the sheet, packed. Assumes nothing.
 use Prim.Native.Nat.{_-_}
 use Rattle.search.specs.Claim.{figures}
-use Rattle.search.proofs.ClaimLaws.{search-low}
+use Rattle.ronchhek.proofs.VerdictLaws.{search-low}
 use borrow.Author.Needs.{needs}
-use Rattle.search.proofs.search.ronchhek_verdict.Statement.{statement}
-use Rattle.search.proofs.search.ronchhek_verdict.Tie as tie
+use Rattle.ronchhek.proofs.verdicts.ronchhek_verdict.Statement.{statement}
+use Rattle.ronchhek.proofs.verdicts.ronchhek_verdict.Tie as tie
 
 search-sheet-requires : tie.Need-search-sheet-requires
 search-sheet-requires c κs = search needs

@@ -1,10 +1,10 @@
 -- Each figure fits its own bits. Assumes nothing.
 use Prim.Native.Nat.{_-_}
-use Rattle.search.specs.Claim.{packed}
+use Rattle.ronchhek.specs.Verdicts.{packed}
 use native.Mathlib.Omega.{arith}
 use borrow.Author.Needs.{needs}
-use Rattle.search.proofs.search.pack.Statement.{statement}
-use Rattle.search.proofs.search.pack.Tie as tie
+use Rattle.ronchhek.proofs.verdicts.pack.Statement.{statement}
+use Rattle.ronchhek.proofs.verdicts.pack.Tie as tie
 
 enum-known-a : tie.Need-enum-known-a
 enum-known-a c = search needs

@@ -1,0 +1,4 @@
+-- Laws that several proofs cite.
+pub mod VerdictLaws
+pub mod ReplayLaws
+pub mod TableLaws
