@@ -1,0 +1,4 @@
+-- Laws that several proofs cite.
+pub mod Digits
+pub mod Places
+pub mod LineLaws
