@@ -25,9 +25,16 @@ class Printed(NamedTuple):
 
 
 def run(command: list, given: bytes = b"", **options) -> Printed:
-    options.setdefault("stdout", subprocess.PIPE)
-    done = subprocess.run([str(part) for part in command], input=given, stderr=subprocess.PIPE, timeout=120, **options)
+    options = {"stdout": subprocess.PIPE, "timeout": 120, **options}
+    done = subprocess.run([str(part) for part in command], input=given, stderr=subprocess.PIPE, **options)
     return Printed(done.returncode, done.stdout or b"", done.stderr)
+
+
+def build(*command) -> None:
+    """Runs something that builds, for as long as it takes, and shows the end of what it says where it fails."""
+    built = run(list(command), timeout=None)
+    if built.status:
+        raise Differs(f"{command}: status {built.status}\n{(built.out + built.err).decode()[-3000:]}")
 
 
 def expect(what, got, wanted) -> None:
