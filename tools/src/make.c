@@ -70,6 +70,8 @@ static void put(const char *path, const uint8_t *sheet, size_t len)
 bool make(struct args *args)
 {
     const char *path = take_option(args, "-o");
+    if (path && strcmp(path, "-") == 0)
+        path = NULL;
     if (args->count < 2)
         return false;
     uint8_t table[RONCHHEK_TABLE_BYTES], sheet[RONCHHEK_LONGEST_SHEET];
