@@ -1,12 +1,12 @@
-/* Ronchhek: verdicts on real-time task tables, and the replay of release lists.
+/* Ronchhek: verdicts on real-time task tables, the replay of release lists, and task sheets read and written.
  *
- * Link with libsearch.a (`rt staticlib search` writes it to target/staticlib/). Both calls take any bytes and any lengths
+ * Link with libronchhek.a (`rt staticlib ronchhek` writes it to target/staticlib/). The calls take any bytes and any lengths
  * and always return. They read and write nothing but the bytes they are lent, take nothing from the heap, make no system
  * call and keep nothing between calls, so several threads may call at once, each with spaces of its own.
  *
  * A pointer goes with the number of bytes that it points to. The lent spaces must not overlap each other or the input.
  * A length may be 0; its pointer is then not used, but must not be NULL (any address will do).
- * There is no alignment to keep.
+ * There is no alignment to keep. A refusal leaves every lent byte as it was.
  */
 #ifndef RONCHHEK_H
 #define RONCHHEK_H
@@ -21,16 +21,17 @@ extern "C" {
 /* Sizes.
  *
  * A slot of the work space has 24 bytes, so a work space has K = work_len / 24 slots, rounded down; slots past the
- * millionth are not used. The trace space needs K bytes. A state has 16 bytes. The longest sheet has 52 bytes.
+ * millionth are not used. The trace space needs K bytes. A state has 16 bytes, a table 27. The longest sheet has 52 bytes.
  */
 #define RONCHHEK_SLOT_BYTES 24
 #define RONCHHEK_MOST_SLOTS 1000000
 #define RONCHHEK_STATE_BYTES 16
+#define RONCHHEK_TABLE_BYTES 27
 #define RONCHHEK_LONGEST_SHEET 52
 
 /* Stack that ronchhek_verdict needs, in bytes, by the slots of the work space, and that ronchhek_replay needs. The heads of the
- * index over the slots stand on the stack: 16 KB, 256 KB or 1 MB by the number of slots, each in a frame of its own.
- * tests/outside/stack.c measures these figures.
+ * index over the slots stand on the stack: 16 KB, 256 KB or 1 MB by the number of slots, each in a frame of its own. The other
+ * calls need no more than ronchhek_replay. tests/outside/stack.c measures these figures.
  */
 #define RONCHHEK_STACK_SMALL 20480     /* up to 16,384 slots */
 #define RONCHHEK_STACK_MEDIUM 266240   /* up to 262,144 slots */
@@ -39,23 +40,53 @@ extern "C" {
 #define RONCHHEK_SLOTS_SMALL 16384
 #define RONCHHEK_SLOTS_MEDIUM 262144
 
+/* A sheet is a series of numbers:
+ *
+ *   3                                     the fields of each task
+ *   policy                                0 NP-GFP, 1 P-GFP, 2 NP-EDF, 3 P-EDF
+ *   m                                     processors, 1 to 8
+ *   n                                     tasks, 1 to 8
+ *   C, D, P of task 1, .., of task n      work, deadline and least gap in ticks, 1 <= C <= D <= P <= 200
+ *
+ * and nothing after it. (NP: a started job is not preempted; P: it may be. GFP: fixed priority, task 1 first; EDF: earliest
+ * deadline first, then the lower task number.)
+ *
+ * A number is written in groups of seven bits, low group first, a byte each, with the top bit set when another group follows:
+ * one byte below 128, else two. So 4 is 04, and 200 = 1 * 128 + 72 is C8 01 (72 is 48 hexadecimal, C8 with the top bit set).
+ *
+ * examples/two-tasks.sheet has 10 bytes:
+ *
+ *   03         three fields a task
+ *   00         policy 0, NP-GFP
+ *   01         1 processor
+ *   02         2 tasks
+ *   01 01 02   task 1: C = 1, D = 1, P = 2
+ *   02 04 04   task 2: C = 2, D = 4, P = 4
+ *
+ * A table is the same in 27 bytes, one for each number: policy, m, n, then C, D, P of task 1, of task 2, .. of task 8, with 0
+ * for tasks that are not there. The same table: 00 01 02, 01 01 02, 02 04 04, then 18 bytes of 0.
+ *
+ * A release mask is a byte that names the tasks released at a tick: bit 0 (value 1) is task 1, bit 1 (value 2) is task 2, ..,
+ * bit 7 (value 128) is task 8. So 3 releases tasks 1 and 2, and 0 none.
+ */
+
 /* Refusal numbers, in the order in which they are judged. A sheet is judged in reading order (each number 1, 2, then its
  * own rule; 7 after a task's three numbers).
  *
- *    1  the sheet ends before a number is complete
+ *    1  the sheet ends before a number is complete; ronchhek_write: the table is shorter than 27 bytes
  *    2  a number's second byte is 0 or above 127
  *    3  the field count is not 3
  *    4  the policy is above 3
  *    5  the processors are not 1 to 8
  *    6  the tasks are not 1 to 8
- *    7  a task breaks 1 <= C <= D <= P <= 200
- *    8  bytes after the last task
+ *    7  a task breaks 1 <= C <= D <= P <= 200; ronchhek_write: or an entry after the last task is not 0
+ *    8  bytes after the last task; ronchhek_write: the table is longer than 27 bytes (judged right after 1)
  *    9  the work space has no slot                                 (ronchhek_verdict)
  *   10  the trace space is shorter than the slots are many         (ronchhek_verdict)
- *   12  the state space is shorter than 16 bytes, or the list has 2^48 bytes or more
- *                                                                  (ronchhek_replay)
  *   11  a mask's bit for no task, or for a task that may not be released yet
  *                                                                  (ronchhek_replay, with the tick's number)
+ *   12  the space for the outcome is too short: 16 bytes of state  (ronchhek_replay),
+ *       27 bytes of table (ronchhek_read), the sheet's length      (ronchhek_write)
  */
 
 /* The verdict on a sheet.
@@ -76,8 +107,6 @@ extern "C" {
  *        its mask. No state stands twice. Every byte after the first N slots stays.
  * trace  Under Unsafe its first L bytes are the release masks of a list that misses at tick L; the rest stays. Under Safe,
  *        No room and a refusal all of it stays.
- *
- * A refusal leaves work and trace as they were.
  */
 uint64_t ronchhek_verdict(const uint8_t *sheet, size_t sheet_len,
                           uint8_t *work, size_t work_len,
@@ -100,12 +129,13 @@ uint64_t ronchhek_verdict(const uint8_t *sheet, size_t sheet_len,
  *   kind 2, Missed   tick is the number of the tick that misses (the first tick is 1); number is 0. Later masks are unread.
  *   kind 0, refused  number is the refusal number; tick is the tick's number under refusal 11 and else 0.
  *
- * Refusal 12 is judged after the sheet and before the first tick.
+ * Refusal 12 is judged after the play: a list with an illegal mask answers 11 whatever the state space. Only a list of 2^48
+ * bytes or more is refused, with 12, before it.
  *
  * state  Under Kept and Missed its first 16 bytes are written: work left and ticks until the next release of task 1, then
  *        of task 2, and so on to task 8 (c in byte 2(i-1) and p in byte 2(i-1)+1 for task i; 0 for tasks that the table
  *        does not have). Under Kept it is the last state, under Missed the state after the tick that misses. Later bytes
- *        stay. Every refusal, also 11, leaves all of it as it was.
+ *        stay.
  *
  * The empty list is Kept with the start state, 16 zero bytes.
  */
@@ -120,6 +150,23 @@ uint64_t ronchhek_replay(const uint8_t *sheet, size_t sheet_len,
 #define RONCHHEK_REPLAY_KIND(answer) ((unsigned)((answer) >> 56))
 #define RONCHHEK_REPLAY_NUMBER(answer) ((unsigned)((answer) >> 48 & 0xFF))
 #define RONCHHEK_REPLAY_TICK(answer) ((answer) & 0xFFFFFFFFFFFF)
+
+/* The table of a sheet, and the sheet of a table. A sheet that is read and written again has the same bytes, and a table that
+ * is written and read again is the same table.
+ *
+ * Both return kind * 2^48 + N (RONCHHEK_KIND and RONCHHEK_COUNT serve here too):
+ *
+ *   kind 1, done     N bytes are written: 27 of the table, or the sheet's length (7 to 52). They stand at the front of the
+ *                    lent space; later bytes stay.
+ *   kind 0, refused  N is the refusal number. ronchhek_read: 1 to 8 of the sheet, then 12. ronchhek_write: 1 or 8 of the
+ *                    table's length, 4 to 7 of the table, then 12.
+ */
+uint64_t ronchhek_read(const uint8_t *sheet, size_t sheet_len,
+                       uint8_t *table, size_t table_len);
+uint64_t ronchhek_write(const uint8_t *table, size_t table_len,
+                        uint8_t *out, size_t out_len);
+
+#define RONCHHEK_DONE 1
 
 #ifdef __cplusplus
 }

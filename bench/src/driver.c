@@ -1,6 +1,6 @@
-/* Times the engines on one sheet: driver ROUNDS HEX. Each engine is lent the same work and trace space of 1,000,000 slots, touched
-   before; in each round every engine is called until a fixed share of time has passed, and the processor time of a call is
-   printed in nanoseconds. Every answer, slot and trace is checked first; a disagreement ends the program. */
+/* Times the engines on one sheet: driver FIRST HEX. Each engine is lent the same work and trace space of 1,000,000 slots, touched
+   before, and called until a fixed share of time has passed, in turn from the engine numbered FIRST on; the processor time of a
+   call is printed in nanoseconds. Every answer, slot and trace is checked first; a disagreement ends the program. */
 #include "engine.h"
 
 #include <stdio.h>
@@ -13,6 +13,9 @@ enum { WORK = SLOT * MOST_SLOTS, FILL = 0xA5, SHARE = 20000000 };
 static const struct { const char *name; Verdict *call; } engines[] = {
 #ifdef LIBRARY
     {"library", ronchhek_verdict},
+#endif
+#ifdef BEFORE
+    {"before", before_verdict},
 #endif
     {"plain", plain_verdict},
     {"simd", simd_verdict},
@@ -81,8 +84,8 @@ static void check(const char *name, const Table *t, uint64_t answer)
 
 int main(int argc, char **argv)
 {
-    if (argc != 3) fail("driver", "give the number of rounds and the sheet in hexadecimal");
-    int rounds = atoi(argv[1]);
+    if (argc != 3) fail("driver", "give the number of the first engine and the sheet in hexadecimal");
+    int first = atoi(argv[1]);
     uint8_t sheet[64];
     size_t len = strlen(argv[2]) / 2;
     if (len > sizeof sheet) fail("driver", "sheet too long");
@@ -116,21 +119,17 @@ int main(int argc, char **argv)
         once[e] = now() - from;
     }
 
-    printf("{\"kind\":%d,\"length\":%d,\"count\":%d,\"hunt\":%llu,\"store\":%llu,\"rounds\":[", (int)(answer >> 48),
+    printf("{\"kind\":%d,\"length\":%d,\"count\":%d,\"hunt\":%llu,\"store\":%llu,\"ns\":{", (int)(answer >> 48),
            (int)(answer >> 24 & 0xFFFFFF), (int)(answer & 0xFFFFFF), (unsigned long long)hunt_ticks,
            (unsigned long long)store_ticks);
-    for (int r = 0; r < rounds; r++) {
-        printf("%s{", r ? "," : "");
-        for (int k = 0; k < ENGINES; k++) {
-            int e = (k + r) % ENGINES;
-            int calls = once[e] >= SHARE ? 1 : (int)(SHARE / once[e]) + 1;
-            double from = now();
-            for (int i = 0; i < calls; i++)
-                if (engines[e].call(sheet, len, work, WORK, trace, MOST_SLOTS) != answer) fail(engines[e].name, "changed answer");
-            printf("%s\"%s\":%.0f", k ? "," : "", engines[e].name, (now() - from) / calls);
-        }
-        printf("}");
+    for (int k = 0; k < ENGINES; k++) {
+        int e = (k + first) % ENGINES;
+        int calls = once[e] >= SHARE ? 1 : (int)(SHARE / once[e]) + 1;
+        double from = now();
+        for (int i = 0; i < calls; i++)
+            if (engines[e].call(sheet, len, work, WORK, trace, MOST_SLOTS) != answer) fail(engines[e].name, "changed answer");
+        printf("%s\"%s\":%.0f", k ? "," : "", engines[e].name, (now() - from) / calls);
     }
-    printf("]}\n");
+    printf("}}\n");
     return 0;
 }

@@ -20,6 +20,7 @@ typedef uint64_t Verdict(const uint8_t *sheet, size_t sheet_len, uint8_t *work, 
                          uint8_t *trace, size_t trace_len);
 
 Verdict ronchhek_verdict; /* the library */
+Verdict before_verdict;   /* another library's ronchhek_verdict, renamed */
 Verdict plain_verdict;    /* plain.c */
 Verdict simd_verdict;     /* simd.c */
 Verdict best_verdict;     /* best.c */

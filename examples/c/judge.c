@@ -1,84 +1,51 @@
-/* judge SHEET [SLOTS]: the verdict on the sheet in a file, and the replay of the list that misses.
+/* judge SHEET: the table of the sheet in a file, the verdict on it, and the replay of the list that misses.
  *
- * Build:  gcc -O2 -Iinclude examples/c/judge.c target/staticlib/libsearch.a -o judge
+ * Build:  gcc -O2 -Iinclude examples/c/judge.c target/staticlib/libronchhek.a -o judge
  *
- * Prints what the program `verdict` prints: `safe N`, `unsafe L N` and then one mask a line, `room K`, or `refused R`; after
- * an unsafe verdict also `replay missed L`, from a replay of the masks. Without SLOTS it lends the spaces that `verdict`
- * lends. Ends with status 1 where the replay does not miss at tick L, and 2 where the file cannot be read.
+ * A short example of the calls; tools/ronchhek is the command for daily use. Ends with status 2 where the file cannot be read.
  */
 #include <stdio.h>
-#include <stdlib.h>
 
 #include "ronchhek.h"
 
-static uint8_t *space(size_t len)
-{
-    uint8_t *bytes = malloc(len ? len : 1);
-    if (!bytes) {
-        fputs("judge: no memory\n", stderr);
-        exit(2);
-    }
-    return bytes;
-}
+enum { SLOTS = 2730 };
 
 int main(int argc, char **argv)
 {
-    if (argc < 2 || argc > 3) {
-        fputs("usage: judge SHEET [SLOTS]\n", stderr);
-        return 2;
-    }
-    FILE *file = fopen(argv[1], "rb");
+    static uint8_t work[SLOTS * RONCHHEK_SLOT_BYTES], trace[SLOTS];
+    uint8_t sheet[RONCHHEK_LONGEST_SHEET + 1]; /* one byte more tells whether bytes follow the last task */
+    uint8_t table[RONCHHEK_TABLE_BYTES], state[RONCHHEK_STATE_BYTES];
+
+    FILE *file = argc == 2 ? fopen(argv[1], "rb") : NULL;
     if (!file) {
-        perror(argv[1]);
+        fputs("usage: judge SHEET\n", stderr);
         return 2;
     }
-    /* One byte more than the longest sheet tells whether bytes follow the last task. */
-    uint8_t read[RONCHHEK_LONGEST_SHEET + 1];
-    size_t sheet_len = fread(read, 1, sizeof read, file);
+    size_t len = fread(sheet, 1, sizeof sheet, file);
     fclose(file);
-    uint8_t *sheet = space(sheet_len);
-    for (size_t i = 0; i < sheet_len; i++)
-        sheet[i] = read[i];
 
-    size_t work_len = 65520, trace_len = 8192;
-    if (argc == 3) {
-        size_t slots = strtoul(argv[2], NULL, 10);
-        if (slots > RONCHHEK_MOST_SLOTS)
-            slots = RONCHHEK_MOST_SLOTS;
-        work_len = slots * RONCHHEK_SLOT_BYTES;
-        trace_len = slots;
-    }
-    uint8_t *work = space(work_len);
-    uint8_t *trace = space(trace_len);
+    uint64_t answer = ronchhek_read(sheet, len, table, sizeof table);
+    if (RONCHHEK_KIND(answer) == RONCHHEK_DONE)
+        printf("policy %u, %u processors, %u tasks\n", table[0], table[1], table[2]);
 
-    int status = 0;
-    uint64_t answer = ronchhek_verdict(sheet, sheet_len, work, work_len, trace, trace_len);
+    answer = ronchhek_verdict(sheet, len, work, sizeof work, trace, sizeof trace);
     uint32_t ticks = RONCHHEK_TICKS(answer), count = RONCHHEK_COUNT(answer);
     switch (RONCHHEK_KIND(answer)) {
     case RONCHHEK_SAFE:
-        printf("safe %u\n", count);
+        printf("safe: no release list misses, %u states\n", count);
         break;
     case RONCHHEK_NO_ROOM:
-        printf("room %u\n", count);
+        printf("no room: more than %u states\n", count);
         break;
     case RONCHHEK_UNSAFE:
-        printf("unsafe %u %u\n", ticks, count);
+        printf("unsafe: a job is late at tick %u under masks", ticks);
         for (uint32_t i = 0; i < ticks; i++)
-            printf("%u\n", trace[i]);
-        uint8_t state[RONCHHEK_STATE_BYTES];
-        uint64_t played = ronchhek_replay(sheet, sheet_len, trace, ticks, state, sizeof state);
-        if (RONCHHEK_REPLAY_KIND(played) == RONCHHEK_REPLAY_MISSED && RONCHHEK_REPLAY_TICK(played) == ticks) {
-            printf("replay missed %u\n", ticks);
-        } else {
-            printf("replay differs: %llu\n", (unsigned long long)played);
-            status = 1;
-        }
+            printf(" %u", trace[i]);
+        answer = ronchhek_replay(sheet, len, trace, ticks, state, sizeof state);
+        printf("\nreplayed: missed at tick %u\n", (unsigned)RONCHHEK_REPLAY_TICK(answer));
         break;
     default:
-        printf("refused %u\n", count);
+        printf("refused: number %u of include/ronchhek.h\n", count);
     }
-    free(sheet);
-    free(work);
-    free(trace);
-    return status;
+    return 0;
 }

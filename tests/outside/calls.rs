@@ -1,4 +1,4 @@
-//! The two calls of include/ronchhek.h, as safe functions, and their packed answers.
+//! The calls of include/ronchhek.h, as safe functions, and their packed answers.
 
 use crate::model::{Replay, Verdict};
 
@@ -19,6 +19,8 @@ extern "C" {
         state: *mut u8,
         state_len: usize,
     ) -> u64;
+    fn ronchhek_read(sheet: *const u8, sheet_len: usize, table: *mut u8, table_len: usize) -> u64;
+    fn ronchhek_write(table: *const u8, table_len: usize, out: *mut u8, out_len: usize) -> u64;
 }
 
 /// The call takes any bytes and any lengths, so there is nothing to test before it.
@@ -30,6 +32,24 @@ pub fn verdict(sheet: &[u8], work: &mut [u8], trace: &mut [u8]) -> u64 {
 pub fn replay(sheet: &[u8], list: &[u8], state: &mut [u8]) -> u64 {
     let n = state.len();
     unsafe { ronchhek_replay(sheet.as_ptr(), sheet.len(), list.as_ptr(), list.len(), state.as_mut_ptr(), n) }
+}
+
+pub fn read(sheet: &[u8], table: &mut [u8]) -> u64 {
+    let n = table.len();
+    unsafe { ronchhek_read(sheet.as_ptr(), sheet.len(), table.as_mut_ptr(), n) }
+}
+
+pub fn write(table: &[u8], out: &mut [u8]) -> u64 {
+    let n = out.len();
+    unsafe { ronchhek_write(table.as_ptr(), table.len(), out.as_mut_ptr(), n) }
+}
+
+/// kind * 2^48 + N, where N bytes are written.
+pub fn packed_bytes(written: &Result<Vec<u8>, u8>) -> u64 {
+    match written {
+        Ok(bytes) => (1 << 48) + bytes.len() as u64,
+        Err(r) => *r as u64,
+    }
 }
 
 /// kind * 2^48 + L * 2^24 + N.

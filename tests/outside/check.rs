@@ -1,6 +1,6 @@
 //! What a call may leave behind: its answer and every byte that it was lent, by document 01's rules.
 
-use crate::calls::{packed_replay, packed_verdict};
+use crate::calls::{packed_bytes, packed_replay, packed_verdict};
 use crate::model::{Levels, Model, Replay, State, Table, Tick, Verdict};
 use std::collections::HashSet;
 
@@ -20,10 +20,10 @@ pub struct Searched<'a> {
     pub answer: u64,
 }
 
-/// The spaces of one call of ronchhek_replay.
-pub struct Replayed<'a> {
-    pub state_before: &'a [u8],
-    pub state_after: &'a [u8],
+/// The one space of a call of ronchhek_replay, ronchhek_read or ronchhek_write.
+pub struct Called<'a> {
+    pub before: &'a [u8],
+    pub after: &'a [u8],
     pub answer: u64,
 }
 
@@ -132,28 +132,47 @@ fn written_slots(m: &Model, t: &Table, work: &[u8]) -> Result<Vec<State>, String
     Ok(states)
 }
 
-/// The outcome of a replay of this sheet, or its refusal.
+/// The outcome of a replay of this sheet, or its refusal: 12 only where the play has a state to write.
 pub fn replay_outcome(m: &Model, reading: &Result<Table, u8>, list: &[u8], state_len: usize) -> Result<Replay, u8> {
-    match reading {
-        Err(r) => Err(*r),
-        Ok(_) if state_len < 16 || list.len() >= 1 << 48 => Err(12),
-        Ok(t) => Ok(m.replay(t, list)),
+    let t = reading.as_ref().map_err(|r| *r)?;
+    match m.replay(t, list) {
+        Replay::Illegal(tick) if state_len >= 16 || m.fault != 8 => Ok(Replay::Illegal(tick)),
+        _ if state_len < 16 => Err(12),
+        played => Ok(played),
     }
 }
 
-pub fn replayed(outcome: Result<Replay, u8>, c: &Replayed) -> Result<(), String> {
+pub fn replayed(outcome: Result<Replay, u8>, c: &Called) -> Result<(), String> {
     let expected = packed_replay(outcome);
     if c.answer != expected {
         return Err(format!("replay answers {:#x}, expected {expected:#x} ({outcome:?})", c.answer));
     }
     let written = match outcome {
         Ok(Replay::Kept(s)) | Ok(Replay::Missed(_, s)) => {
-            if c.state_after[..16] != s.bytes() {
-                return Err(format!("state {:?}, expected {:?}", &c.state_after[..16], s.bytes()));
+            if c.after[..16] != s.bytes() {
+                return Err(format!("state {:?}, expected {:?}", &c.after[..16], s.bytes()));
             }
             16
         }
         _ => 0,
     };
-    same("state", &c.state_before[written..], &c.state_after[written..])
+    same("state", &c.before[written..], &c.after[written..])
+}
+
+/// What a call that writes these bytes does with a space: 12 where it is too short for them.
+pub fn fitted(bytes: Result<Vec<u8>, u8>, space: usize) -> Result<Vec<u8>, u8> {
+    bytes.and_then(|b| if space < b.len() { Err(12) } else { Ok(b) })
+}
+
+/// A call of ronchhek_read or ronchhek_write: the bytes at the front of the space, or the refusal.
+pub fn written(outcome: &Result<Vec<u8>, u8>, c: &Called) -> Result<(), String> {
+    let expected = packed_bytes(outcome);
+    if c.answer != expected {
+        return Err(format!("answer {:#x}, expected {expected:#x}", c.answer));
+    }
+    let bytes = outcome.as_deref().unwrap_or(&[]);
+    if c.after[..bytes.len()] != *bytes {
+        return Err(format!("wrote {:?}, expected {bytes:?}", &c.after[..bytes.len()]));
+    }
+    same("the space", &c.before[bytes.len()..], &c.after[bytes.len()..])
 }

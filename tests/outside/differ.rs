@@ -1,6 +1,6 @@
-//! Differential test: the library's two calls against the independent implementation of model.rs.
+//! Differential test: the library's calls against the independent implementation of model.rs.
 //!
-//!     differ [--seed S] [--sheets N] [--case I] [--fault 1..5] [--corpus DIR]
+//!     differ [--seed S] [--sheets N] [--case I] [--fault 1..8] [--corpus DIR]
 //!
 //! Prints its seed, and at the end what was met. Ends with status 1 at the first difference.
 //! `--case I` runs that sheet of the seed alone. `--fault` seeds a mistake in the independent side.
@@ -12,8 +12,8 @@ mod gen;
 mod model;
 mod rng;
 
-use check::{Replayed, Searched, SLOT};
-use model::{End, Levels, Model, Replay, Table, Verdict};
+use check::{Called, Searched, SLOT};
+use model::{End, Levels, Model, Replay, Table, Verdict, TABLE};
 use rng::Rng;
 use std::collections::{BTreeMap, HashSet};
 
@@ -179,15 +179,131 @@ impl Run {
         let told = |e: String| format!("list of {} bytes {shown:?}, state of {state_len}: {e}", list.len());
         state.around_stays().map_err(told)?;
         let outcome = check::replay_outcome(&self.m, &s.reading, list, state_len);
-        let call = Replayed { state_before: state.was(), state_after: state.is(), answer };
+        let call = Called { before: state.was(), after: state.is(), answer };
         check::replayed(outcome, &call).map_err(told)?;
         self.met.add("calls of the replay");
+        if state_len < 16 && matches!(outcome, Ok(Replay::Illegal(_))) {
+            self.met.add("replay refused 11 with a state space too short");
+        }
         self.met.add(&match outcome {
             Ok(Replay::Kept(_)) => "replay Kept".to_string(),
             Ok(Replay::Missed(..)) => "replay Missed".to_string(),
             Ok(Replay::Illegal(_)) => "replay refused 11".to_string(),
             Err(n) => format!("replay refused {n:2}"),
         });
+        Ok(())
+    }
+
+    /// A call of the reader or the writer, judged; then, now and then, one changed byte of its outcome, which must be found.
+    fn written(
+        &mut self,
+        r: &mut Rng,
+        call: &str,
+        mut space: Lent,
+        answer: u64,
+        bytes: Result<Vec<u8>, u8>,
+    ) -> Result<(), String> {
+        let told = |e: String| format!("{call} into {} bytes: {e}", space.len);
+        space.around_stays().map_err(told)?;
+        let outcome = check::fitted(bytes, space.len);
+        check::written(&outcome, &Called { before: space.was(), after: space.is(), answer }).map_err(told)?;
+        self.met.add(&match outcome {
+            Ok(_) => format!("{call} done"),
+            Err(n) => format!("{call} refused {n:2}"),
+        });
+        if r.one_in(30) {
+            let mut changed = answer;
+            if space.len > 0 && r.one_in(2) {
+                let at = r.below(space.len);
+                space.space()[at] ^= 1 << r.below(8);
+            } else {
+                changed ^= 1 << r.below(64);
+            }
+            if check::written(&outcome, &Called { before: space.was(), after: space.is(), answer: changed }).is_ok() {
+                return Err(format!("{call}: a changed byte was not found"));
+            }
+            self.met.add("changed bytes found");
+        }
+        Ok(())
+    }
+
+    /// The table of a sheet, into a space of that length.
+    fn read(&mut self, r: &mut Rng, s: &Subject, table_len: usize) -> Result<(), String> {
+        let mut table = Lent::new(r, table_len);
+        let answer = calls::read(&s.sheet, table.space());
+        let bytes = s.reading.as_ref().map(|t| self.m.table_bytes(t)).map_err(|n| *n);
+        self.written(r, "read", table, answer, bytes)
+    }
+
+    /// The sheet of a table's bytes, into a space of that length.
+    fn write(&mut self, r: &mut Rng, table: &[u8], out_len: usize) -> Result<(), String> {
+        let mut out = Lent::new(r, out_len);
+        let answer = calls::write(table, out.space());
+        let bytes = self.m.sheet_of_table(table);
+        self.written(r, "write", out, answer, bytes).map_err(|e| format!("table {table:?}: {e}"))
+    }
+
+    /// The library's own table of a sheet, written: the same bytes; and the sheet of a table, read: the same table.
+    fn round_trip(&mut self, t: &Table) -> Result<(), String> {
+        let (sheet, bytes) = (model::write_sheet(t), self.m.table_bytes(t));
+        let (mut table, mut again) = ([0; TABLE], vec![0; sheet.len()]);
+        calls::read(&sheet, &mut table);
+        calls::write(&table, &mut again);
+        if again != sheet {
+            return Err(format!("{t:?}: read and written again it is {again:?}"));
+        }
+        let (mut out, mut table) = ([0; 64], [0; TABLE]);
+        let len = calls::write(&bytes, &mut out) & 0xFF_FFFF;
+        calls::read(&out[..len as usize], &mut table);
+        if table != *bytes {
+            return Err(format!("{t:?}: written and read again it is {table:?}"));
+        }
+        self.met.add("round trips");
+        Ok(())
+    }
+
+    /// The reader and the writer on one sheet, with spaces round the limit.
+    fn exchange(&mut self, r: &mut Rng, s: &Subject) -> Result<(), String> {
+        for len in [TABLE - 1, TABLE, TABLE + 1, r.below(60)] {
+            self.read(r, s, len)?;
+        }
+        let t = match &s.reading {
+            Ok(t) => t.clone(),
+            Err(_) => gen::table(r),
+        };
+        self.round_trip(&t)?;
+        let len = model::write_sheet(&t).len();
+        let table = gen::table_bytes(r, self.m.table_bytes(&t));
+        for len in [len - 1, len, len + 1, r.below(60)] {
+            self.write(r, &table, len)?;
+        }
+        Ok(())
+    }
+
+    /// Every length of a table and of the two spaces, and every value of each byte of a table.
+    fn every_table(&mut self, r: &mut Rng) -> Result<(), String> {
+        for n in 1..=8 {
+            let t = gen::table_of(r, n);
+            let bytes = self.m.table_bytes(&t);
+            let s = Subject { sheet: model::write_sheet(&t), reading: Ok(t), levels: None };
+            for len in 0..60 {
+                self.read(r, &s, len)?;
+                self.write(r, &bytes, len)?;
+            }
+            for len in 0..=40 {
+                let mut other = bytes.clone();
+                other.resize(len, 0);
+                self.write(r, &other, 52)?;
+            }
+            for at in 0..TABLE {
+                for value in 0..=255 {
+                    let mut other = bytes.clone();
+                    other[at] = value;
+                    let len = r.range(s.sheet.len() - 1, 52);
+                    self.write(r, &other, len)?;
+                }
+            }
+        }
         Ok(())
     }
 
@@ -261,6 +377,7 @@ impl Run {
             Ok(t) => format!("sheets of policy {}", t.policy),
             Err(n) => format!("sheets refused {n}"),
         });
+        self.exchange(r, &s)?;
         let Some(levels) = &s.levels else {
             for _ in 0..3 {
                 let k = r.below(4);
@@ -484,6 +601,7 @@ fn whole_run(run: &mut Run, seed: u64, sheets: u64) -> Result<(), String> {
     if run.m.fault == 0 {
         // A seeded fault is left to the generated sheets.
         run.benchmarks(&mut r).map_err(|e| format!("benchmark tables: {e}"))?;
+        run.every_table(&mut r).map_err(|e| format!("every table: {e}"))?;
         for _ in 0..sheets.min(20_000) / 100 {
             let t = gen::tiny_table(&mut r);
             let mut masks: Vec<u8> = (0..1u8 << t.tasks.len()).collect();
@@ -528,8 +646,13 @@ fn one_sheet(run: &mut Run, seed: u64, i: u64) -> Result<(), String> {
 fn complete(met: &Met) -> Result<(), String> {
     let mut all: Vec<String> = (1..=10).map(|n| format!("search refused {n:2}")).collect();
     all.extend([1, 2, 3, 4, 5, 6, 7, 8, 11, 12].map(|n| format!("replay refused {n:2}")));
+    all.push("replay refused 11 with a state space too short".into());
+    all.extend([1, 2, 3, 4, 5, 6, 7, 8, 12].map(|n| format!("read refused {n:2}")));
+    all.extend([1, 4, 5, 6, 7, 8, 12].map(|n| format!("write refused {n:2}")));
     all.extend((0..4).map(|p| format!("sheets of policy {p}")));
-    all.extend(["Safe", "Unsafe", "No room", "replay Kept", "replay Missed"].map(String::from));
+    all.extend(
+        ["Safe", "Unsafe", "No room", "replay Kept", "replay Missed", "read done", "write done"].map(String::from),
+    );
     match all.iter().find(|what| met.of(what) < 20) {
         Some(what) => Err(format!("met fewer than 20 times: {what}")),
         None => Ok(()),
@@ -583,6 +706,6 @@ fn main() {
 }
 
 fn usage() -> ! {
-    eprintln!("usage: differ [--seed S] [--sheets N] [--case I] [--fault 1..5] [--corpus DIR]");
+    eprintln!("usage: differ [--seed S] [--sheets N] [--case I] [--fault 1..8] [--corpus DIR]");
     std::process::exit(2);
 }

@@ -1,4 +1,4 @@
-//! Fuzz driver: both calls on random sheets, lists and sizes of spaces, with pages that fault on any access
+//! Fuzz driver: the calls on random sheets, lists, tables and sizes of spaces, with pages that fault on any access
 //! on both sides of every space. The input stands in pages that fault on a write.
 //!
 //!     fuzz [--seconds S] [--seed S] [--from I] [--cases N]
@@ -14,8 +14,8 @@ mod gen;
 mod model;
 mod rng;
 
-use check::{Replayed, Searched, SLOT};
-use model::{Model, Verdict};
+use check::{Called, Searched, SLOT};
+use model::{Model, Table, Verdict, TABLE};
 use rng::Rng;
 use std::io::Write;
 use std::sync::atomic::{AtomicU64, Ordering};
@@ -166,6 +166,36 @@ fn verdict_of(answer: u64) -> Option<Verdict> {
     }
 }
 
+/// A call that is lent one part of the state's page and writes these bytes there, judged.
+fn written(
+    r: &mut Rng,
+    spaces: &Spaces,
+    len: usize,
+    bytes: Result<Vec<u8>, u8>,
+    call: impl Fn(&mut [u8]) -> u64,
+) -> Result<(), String> {
+    let (lent, before) = lend(r, &spaces.state, len);
+    let answer = call(spaces.state.bytes(&lent));
+    let told = |e: String| format!("space of {len}, answer {answer:#x}: {e}");
+    beside_stays(&spaces.state, &lent).map_err(told)?;
+    let called = Called { before: &before, after: spaces.state.bytes(&lent), answer };
+    check::written(&check::fitted(bytes, len), &called).map_err(told)
+}
+
+/// The sheet read, and a table written, which stands in the page of the list.
+fn exchange(r: &mut Rng, m: &Model, spaces: &Spaces, sheet: &[u8], reading: &Result<Table, u8>) -> Result<(), String> {
+    let bytes = reading.as_ref().map(|t| m.table_bytes(t)).map_err(|n| *n);
+    let table = gen::table_bytes(r, bytes.clone().unwrap_or(vec![0; TABLE]));
+    let (input, len) = (put(r, &spaces.input, sheet), r.pick(&[0, TABLE - 1, TABLE, TABLE, TABLE + 1, 60]));
+    written(r, spaces, len, bytes, |space| calls::read(spaces.input.bytes(&input), space))
+        .map_err(|e| format!("sheet {sheet:?} read: {e}"))?;
+    let bytes = m.sheet_of_table(&table);
+    let full = bytes.as_ref().map_or(30, Vec::len);
+    let (input, len) = (put(r, &spaces.list, &table), r.pick(&[0, full - 1, full, full, full + 1, 60]));
+    written(r, spaces, len, bytes, |space| calls::write(spaces.list.bytes(&input), space))
+        .map_err(|e| format!("table {table:?} written: {e}"))
+}
+
 fn case(r: &mut Rng, m: &Model, spaces: &Spaces, most_slots: usize, found: &mut [usize; 5]) -> Result<(), String> {
     let sheet = gen::sheet(r);
     let reading = m.read_sheet(&sheet);
@@ -219,10 +249,10 @@ fn case(r: &mut Rng, m: &Model, spaces: &Spaces, most_slots: usize, found: &mut 
     let answer = calls::replay(spaces.input.bytes(&input), spaces.list.bytes(&played), spaces.state.bytes(&state));
     let told = |e: String| format!("sheet {sheet:?}, list {list:?}, state {state_len}, answer {answer:#x}: {e}");
     beside_stays(&spaces.state, &state).map_err(told)?;
-    let call = Replayed { state_before: &state_before, state_after: spaces.state.bytes(&state), answer };
+    let call = Called { before: &state_before, after: spaces.state.bytes(&state), answer };
     check::replayed(check::replay_outcome(m, &reading, &list, state_len), &call).map_err(told)?;
     found[4] += 1;
-    Ok(())
+    exchange(r, m, spaces, &sheet, &reading)
 }
 
 fn main() {
@@ -266,7 +296,7 @@ fn main() {
         i += 1;
     }
     let [refused, safe, miss, room, replays] = found;
-    println!("fuzz: {} searches ({safe} Safe, {miss} Unsafe, {room} No room, {refused} refused), {replays} replays, no fault", i - from);
+    println!("fuzz: {} searches ({safe} Safe, {miss} Unsafe, {room} No room, {refused} refused), {replays} replays, as many sheets read and tables written, no fault", i - from);
 }
 
 fn usage() -> ! {

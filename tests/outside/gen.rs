@@ -1,4 +1,4 @@
-//! Generated sheets, valid and damaged.
+//! Generated sheets and tables, valid and damaged.
 
 use crate::model::{self, Table, Task};
 use crate::rng::Rng;
@@ -69,6 +69,12 @@ pub fn large_table(r: &mut Rng) -> Table {
     with_policy(r, tasks)
 }
 
+/// A table of n tasks, its numbers as large as they may be.
+pub fn table_of(r: &mut Rng, n: usize) -> Table {
+    let tasks = with_gaps(r, n, 1, 200, 200);
+    with_policy(r, tasks)
+}
+
 /// A table for the brute force.
 pub fn tiny_table(r: &mut Rng) -> Table {
     let n = r.range(1, 3);
@@ -124,6 +130,31 @@ fn odd_numbers(r: &mut Rng, t: &Table, changes: usize) -> Vec<u8> {
         model::push_number(&mut out, x);
     }
     out
+}
+
+/// The bytes of a table (27 where it is one): half of them valid, the others with some bytes changed, or of another length.
+pub fn table_bytes(r: &mut Rng, valid: Vec<u8>) -> Vec<u8> {
+    let mut bytes = valid;
+    match r.below(8) {
+        0..=3 => {}
+        4..=5 => {
+            for _ in 0..r.range(1, 3) {
+                let at = if r.one_in(3) { r.below(3) } else { r.below(bytes.len()) };
+                bytes[at] = match r.below(4) {
+                    0 => bytes[at].wrapping_add(1),
+                    1 => bytes[at].wrapping_sub(1),
+                    2 => r.pick(&[0, 1, 8, 9, 127, 128, 200, 201, 255]),
+                    _ => r.byte(),
+                };
+            }
+        }
+        6 => bytes.resize(r.below(41), 0),
+        _ => {
+            bytes.resize(r.below(41), 0);
+            r.fill(&mut bytes);
+        }
+    }
+    bytes
 }
 
 /// A sheet: half of them valid, the others damaged in one place, in several, or random bytes.

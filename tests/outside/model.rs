@@ -1,4 +1,4 @@
-//! The rules of document 01 written once more: sheet, tick, replay, and a search with plain sets.
+//! The rules of document 01 written once more: sheet, table, tick, replay, and a search with plain sets.
 //! Slow and direct; shares nothing with the library. Section names in the comments are document 01's.
 //! Tasks are counted from 0 here, so task i of this file is the document's task i + 1.
 
@@ -109,12 +109,15 @@ pub struct Model {
 }
 
 /// Faults that `Model` knows.
-pub const FAULTS: [&str; 5] = [
+pub const FAULTS: [&str; 8] = [
     "under NP an urgent job takes a started job's core",
     "a deadline is tested only when no time is left",
     "a task's rule is judged after all tasks",
     "the count of Unsafe is N(L)",
     "a replay numbers its ticks from 0",
+    "deadline and gap are swapped in a table's 27 bytes",
+    "a table's entries after the last task are not looked at",
+    "a short state space is judged before the play",
 ];
 
 // The sheet.
@@ -160,7 +163,53 @@ pub fn write_sheet(t: &Table) -> Vec<u8> {
     out
 }
 
+/// Bytes of a table: policy, m, n, then C, D, P of eight tasks.
+pub const TABLE: usize = 3 + 3 * TASKS;
+
 impl Model {
+    /// The table of a sheet in 27 bytes.
+    pub fn table_bytes(&self, t: &Table) -> Vec<u8> {
+        let mut b = vec![t.policy, t.cores, t.tasks.len() as u8];
+        for task in &t.tasks {
+            let fields = [task.work, task.deadline, task.gap];
+            b.extend(if self.fault == 6 { [fields[0], fields[2], fields[1]] } else { fields });
+        }
+        b.resize(TABLE, 0);
+        b
+    }
+
+    /// The sheet of a table's bytes: 1 and 8 for its length, then "Refusals by cause" 4 to 7.
+    pub fn sheet_of_table(&self, b: &[u8]) -> Result<Vec<u8>, u8> {
+        match b.len() {
+            0..TABLE => return Err(1),
+            TABLE => {}
+            _ => return Err(8),
+        }
+        let (policy, cores, n) = (b[0], b[1], b[2] as usize);
+        if policy > 3 {
+            return Err(4);
+        }
+        if !(1..=8).contains(&cores) {
+            return Err(5);
+        }
+        if !(1..=8).contains(&n) {
+            return Err(6);
+        }
+        let mut tasks = Vec::new();
+        for (i, entry) in b[3..].chunks(3).enumerate() {
+            let task = Task { work: entry[0], deadline: entry[1], gap: entry[2] };
+            if i < n {
+                if !(1 <= task.work && task.work <= task.deadline && task.deadline <= task.gap && task.gap <= 200) {
+                    return Err(7);
+                }
+                tasks.push(task);
+            } else if entry != [0, 0, 0] && self.fault != 7 {
+                return Err(7);
+            }
+        }
+        Ok(write_sheet(&Table { policy, cores, tasks }))
+    }
+
     /// "Refusals by cause": a sheet is judged in reading order.
     pub fn read_sheet(&self, sheet: &[u8]) -> Result<Table, u8> {
         let (fields, at) = number(sheet, 0)?;

@@ -1,4 +1,4 @@
-/* Measures the stack that the two calls use, on a thread whose stack was filled with a pattern, and compares it with the
+/* Measures the stack that the calls use, on a thread whose stack was filled with a pattern, and compares it with the
  * figures of ronchhek.h. Prints a line for each size of work space; ends with status 1 where a figure is too low. */
 #include <pthread.h>
 #include <stdio.h>
@@ -12,7 +12,7 @@ enum { STACK = 4 << 20, PATTERN = 0xA5 };
 static const uint8_t sheet[] = {3, 3, 2, 4, 2, 40, 60, 3, 50, 70, 4, 60, 80, 1, 3, 3};
 
 struct job {
-    int kind; /* 0 nothing, 1 verdict, 2 replay */
+    enum { NOTHING, VERDICT, REPLAY, READ, WRITE } kind;
     uint8_t *work, *trace;
     size_t slots;
 };
@@ -20,12 +20,16 @@ struct job {
 static void *run(void *given)
 {
     struct job *job = given;
-    uint8_t state[RONCHHEK_STATE_BYTES];
+    static uint8_t state[RONCHHEK_STATE_BYTES], out[RONCHHEK_LONGEST_SHEET], table[RONCHHEK_TABLE_BYTES] = {3, 1, 1, 1, 1, 1};
     static const uint8_t list[64] = {15};
-    if (job->kind == 1)
+    if (job->kind == VERDICT)
         ronchhek_verdict(sheet, sizeof sheet, job->work, job->slots * RONCHHEK_SLOT_BYTES, job->trace, job->slots);
-    if (job->kind == 2)
+    if (job->kind == REPLAY)
         ronchhek_replay(sheet, sizeof sheet, list, sizeof list, state, sizeof state);
+    if (job->kind == READ)
+        ronchhek_read(sheet, sizeof sheet, table, sizeof table);
+    if (job->kind == WRITE)
+        ronchhek_write(table, sizeof table, out, sizeof out);
     return NULL;
 }
 
@@ -54,15 +58,17 @@ int main(void)
     static const size_t slots[] = {1, 2730, 16384, 16385, 65536, 262144, 262145, 1000000};
     uint8_t *work = malloc((size_t)RONCHHEK_MOST_SLOTS * RONCHHEK_SLOT_BYTES);
     uint8_t *trace = malloc(RONCHHEK_MOST_SLOTS);
-    struct job job = {0, work, trace, 0};
+    struct job job = {NOTHING, work, trace, 0};
     size_t thread = used(&job); /* what a thread itself uses */
     int status = 0;
-    job.kind = 2;
-    size_t replay = used(&job) - thread;
-    printf("stack of a replay: %zu of %d\n", replay, RONCHHEK_STACK_REPLAY);
-    if (replay > RONCHHEK_STACK_REPLAY)
-        status = 1;
-    job.kind = 1;
+    static const char *const names[] = {[REPLAY] = "replay", [READ] = "read", [WRITE] = "write"};
+    for (job.kind = REPLAY; job.kind <= WRITE; job.kind++) {
+        size_t measured = used(&job) - thread;
+        printf("stack of a %s: %zu of %d\n", names[job.kind], measured, RONCHHEK_STACK_REPLAY);
+        if (measured > RONCHHEK_STACK_REPLAY)
+            status = 1;
+    }
+    job.kind = VERDICT;
     for (size_t i = 0; i < sizeof slots / sizeof *slots; i++) {
         job.slots = slots[i];
         size_t stated = slots[i] <= RONCHHEK_SLOTS_SMALL ? RONCHHEK_STACK_SMALL

@@ -1,0 +1,100 @@
+/* corpus FOLDER: every line of FOLDER/cases.txt in one process, for valgrind: each space is a heap block of the exact size that
+ * nothing wrote to before. The first line of a verdict must be the one expected, the list of an unsafe one must miss at its last
+ * tick, and the table of an accepted sheet must give the same sheet again. Ends with status 1 at the first difference. */
+#include <stdio.h>
+#include <stdlib.h>
+#include <string.h>
+
+#include "ronchhek.h"
+
+static _Noreturn void fail(const char *name, const char *what)
+{
+    printf("corpus: FAILED, %s: %s\n", name, what);
+    exit(1);
+}
+
+static uint8_t *space(size_t len)
+{
+    uint8_t *bytes = malloc(len ? len : 1);
+    if (!bytes)
+        fail("malloc", "no memory");
+    return bytes;
+}
+
+static uint8_t *load(const char *folder, const char *name, size_t *len)
+{
+    char path[400];
+    uint8_t front[1024];
+    snprintf(path, sizeof path, "%s/%s.sheet", folder, name);
+    FILE *file = fopen(path, "rb");
+    if (!file)
+        fail(name, "no such sheet");
+    *len = fread(front, 1, sizeof front, file);
+    fclose(file);
+    uint8_t *sheet = space(*len);
+    memcpy(sheet, front, *len);
+    return sheet;
+}
+
+/* The verdict's first line, and a replay of its list. */
+static void judge(const char *name, const uint8_t *sheet, size_t len, size_t work_len, size_t trace_len, const char *expected)
+{
+    uint8_t *work = space(work_len), *trace = space(trace_len), *state = space(RONCHHEK_STATE_BYTES);
+    uint64_t answer = ronchhek_verdict(sheet, len, work, work_len, trace, trace_len);
+    unsigned kind = RONCHHEK_KIND(answer), ticks = RONCHHEK_TICKS(answer), count = RONCHHEK_COUNT(answer);
+    static const char *const words[] = {"refused", "safe", "unsafe", "room"};
+    char line[64];
+    if (kind == RONCHHEK_UNSAFE)
+        snprintf(line, sizeof line, "unsafe %u %u", ticks, count);
+    else
+        snprintf(line, sizeof line, "%s %u", kind < 4 ? words[kind] : "unknown", count);
+    if (strcmp(line, expected) != 0)
+        fail(name, line);
+    if (kind == RONCHHEK_UNSAFE) {
+        uint64_t played = ronchhek_replay(sheet, len, trace, ticks, state, RONCHHEK_STATE_BYTES);
+        if (RONCHHEK_REPLAY_KIND(played) != RONCHHEK_REPLAY_MISSED || RONCHHEK_REPLAY_TICK(played) != ticks)
+            fail(name, "the list does not miss at its last tick");
+    }
+    free(work);
+    free(trace);
+    free(state);
+}
+
+/* The sheet read and written again, where it is accepted. */
+static void exchange(const char *name, const uint8_t *sheet, size_t len)
+{
+    uint8_t *table = space(RONCHHEK_TABLE_BYTES), *out = space(len);
+    if (RONCHHEK_KIND(ronchhek_read(sheet, len, table, RONCHHEK_TABLE_BYTES)) == RONCHHEK_DONE) {
+        uint64_t answer = ronchhek_write(table, RONCHHEK_TABLE_BYTES, out, len);
+        if (RONCHHEK_KIND(answer) != RONCHHEK_DONE || RONCHHEK_COUNT(answer) != len || memcmp(out, sheet, len) != 0)
+            fail(name, "read and written again it differs");
+    }
+    free(table);
+    free(out);
+}
+
+int main(int argc, char **argv)
+{
+    char path[400], name[64], slots[16], expected[64];
+    if (argc != 2)
+        fail("usage", "corpus FOLDER");
+    snprintf(path, sizeof path, "%s/cases.txt", argv[1]);
+    FILE *cases = fopen(path, "r");
+    int lines = 0;
+    if (!cases || fscanf(cases, "#%*[^\n] ") < 0)
+        fail(path, "no cases");
+    while (fscanf(cases, "%63s %15s %63[^\n]", name, slots, expected) == 3) {
+        size_t len, k = strtoul(slots, NULL, 10);
+        uint8_t *sheet = load(argv[1], name, &len);
+        if (strcmp(slots, "-") == 0)
+            judge(name, sheet, len, 65520, 8192, expected);
+        else
+            judge(name, sheet, len, k * RONCHHEK_SLOT_BYTES, k, expected);
+        exchange(name, sheet, len);
+        free(sheet);
+        lines++;
+    }
+    fclose(cases);
+    printf("corpus: %d lines as expected\n", lines);
+    return lines == 0;
+}

@@ -1,0 +1,97 @@
+#include "tool.h"
+
+#include <errno.h>
+#include <stdarg.h>
+#include <stdio.h>
+#include <stdlib.h>
+#include <string.h>
+
+int finish(void)
+{
+    if (fflush(stdout) != 0 || ferror(stdout))
+        fail("standard output: %s", strerror(errno));
+    return 0;
+}
+
+_Noreturn void fail(const char *format, ...)
+{
+    va_list values;
+    va_start(values, format);
+    fputs("ronchhek: ", stderr);
+    vfprintf(stderr, format, values);
+    fputc('\n', stderr);
+    va_end(values);
+    exit(2);
+}
+
+const char *take_option(struct args *args, const char *name)
+{
+    for (int i = 0; i < args->count; i++) {
+        if (strcmp(args->at[i], name) != 0)
+            continue;
+        if (i + 1 == args->count)
+            fail("%s needs a value", name);
+        const char *value = args->at[i + 1];
+        args->count -= 2;
+        memmove(args->at + i, args->at + i + 2, (size_t)(args->count - i) * sizeof *args->at);
+        return value;
+    }
+    return NULL;
+}
+
+unsigned long number(const char *what, const char *text, unsigned long most)
+{
+    bool hex = text[0] == '0' && (text[1] == 'x' || text[1] == 'X');
+    const char *digits = hex ? text + 2 : text;
+    bool written = *digits && digits[strspn(digits, hex ? "0123456789abcdefABCDEF" : "0123456789")] == '\0';
+    errno = 0;
+    unsigned long value = written ? strtoul(digits, NULL, hex ? 16 : 10) : 0;
+    if (!written || errno || value > most)
+        fail("%s: `%s` is not a number from 0 to %lu", what, text, most);
+    return value;
+}
+
+uint8_t *space(size_t len)
+{
+    uint8_t *bytes = malloc(len ? len : 1);
+    if (!bytes)
+        fail("no memory for %zu bytes", len);
+    return bytes;
+}
+
+struct sheet read_sheet(const char *path)
+{
+    bool input = strcmp(path, "-") == 0;
+    uint8_t front[64];
+    errno = 0;
+    FILE *file = input ? stdin : fopen(path, "rb");
+    size_t len = file ? fread(front, 1, sizeof front, file) : 0;
+    if (!file || ferror(file))
+        fail("%s: %s", input ? "standard input" : path, strerror(errno));
+    if (!input)
+        fclose(file);
+    struct sheet sheet = {space(len), len};
+    memcpy(sheet.bytes, front, len);
+    return sheet;
+}
+
+const char *const policy_names[POLICIES] = {"NP-GFP", "P-GFP", "NP-EDF", "P-EDF"};
+
+const char *reason(unsigned refusal)
+{
+    static const char *const reasons[] = {
+        [1] = "the sheet ends before a number is complete",
+        [2] = "a number's second byte is 0 or above 127",
+        [3] = "the field count is not 3",
+        [4] = "the policy is above 3",
+        [5] = "the processors are not 1 to 8",
+        [6] = "the tasks are not 1 to 8",
+        [7] = "a task breaks 1 <= C <= D <= P <= 200",
+        [8] = "bytes after the last task",
+        [9] = "the work space has no slot",
+        [10] = "the trace space is shorter than the slots are many",
+        [11] = "a mask's bit for no task, or for a task that may not be released yet",
+        [12] = "the space for the outcome is too short",
+    };
+    return refusal && refusal < sizeof reasons / sizeof *reasons ? reasons[refusal] : "an unknown refusal";
+}

@@ -1,0 +1,78 @@
+/* ronchhek SUBCOMMAND ..: the library's calls on files. */
+#include "tool.h"
+
+#include <stdio.h>
+#include <string.h>
+
+static const struct command {
+    const char *name, *arguments, *help;
+    bool (*run)(struct args *args);
+} commands[] = {
+    {"verdict", "SHEET [--slots K]",
+     "    Whether some pattern of releases makes a job late. Prints `safe N`, `unsafe L N` and then the L masks of a shortest\n"
+     "    list that misses, one a line, `room K` where the space does not suffice to tell, or `refused R`. K is 0 to 1000000\n"
+     "    slots of 24 bytes, with a trace byte for each; without --slots 2730, in 65520 bytes, with 8192 of trace.\n",
+     verdict},
+    {"replay", "SHEET [MASK ..]",
+     "    Plays a release list, one mask a tick; bit 0 (value 1) releases task 1, bit 7 (value 128) task 8. Prints `kept`, or\n"
+     "    `missed T` for the tick that misses, then a line `task I c WORK-LEFT p TICKS-TO-NEXT-RELEASE` for each task; or\n"
+     "    `refused R`, with the tick after it where R is 11. Masks are 0 to 255, also written 0x...\n",
+     replay},
+    {"show", "SHEET",
+     "    The table of a sheet in words, or `refused R` and a line that says why.\n",
+     show},
+    {"make", "POLICY M C,D,P .. [-o FILE]",
+     "    Writes the sheet of a table: a policy (0 to 3, or np-gfp, p-gfp, np-edf, p-edf), M processors, and for each task its\n"
+     "    work, deadline and least gap, all 0 to 255. Without -o, or for -o -, the bytes go to standard output, which must\n"
+     "    not be a terminal. A table that the library refuses gives `refused R` and a line that says why on standard error, and no sheet.\n",
+     make},
+};
+enum { COMMANDS = sizeof commands / sizeof *commands };
+
+static void print_usage(FILE *file, const struct command *command)
+{
+    fprintf(file, "ronchhek %s %s\n", command->name, command->arguments);
+}
+
+static void print_help(void)
+{
+    puts("Verdicts on real-time task tables, from a proved library.\n");
+    for (int i = 0; i < COMMANDS; i++) {
+        print_usage(stdout, &commands[i]);
+        puts(commands[i].help);
+    }
+    puts("SHEET is a file, or - for standard input. R is a refusal number of include/ronchhek.h.\n"
+         "Status 0: an answer, also a refusal. Status 2: none, for wrong arguments or a file that cannot be read or written.");
+}
+
+static bool wants_help(int argc, char **argv)
+{
+    for (int i = 1; i < argc; i++)
+        if (strcmp(argv[i], "--help") == 0 || strcmp(argv[i], "-h") == 0)
+            return true;
+    return false;
+}
+
+static int run(const struct command *command, int argc, char **argv)
+{
+    struct args args = {argc - 2, argv + 2};
+    if (command->run(&args))
+        return finish();
+    fputs("usage: ", stderr);
+    print_usage(stderr, command);
+    return 2;
+}
+
+int main(int argc, char **argv)
+{
+    if (wants_help(argc, argv)) {
+        print_help();
+        return finish();
+    }
+    if (argc < 2)
+        fail("no subcommand; ronchhek --help lists them");
+    for (int i = 0; i < COMMANDS; i++)
+        if (strcmp(argv[1], commands[i].name) == 0)
+            return run(&commands[i], argc, argv);
+    fail("no subcommand `%s`; ronchhek --help lists them", argv[1]);
+}

@@ -1,0 +1,51 @@
+/* What the subcommands share. Every answer comes from the library; the program reads files, lends memory and prints. */
+#ifndef TOOL_H
+#define TOOL_H
+
+#include <stdbool.h>
+
+#include "ronchhek.h"
+
+/* The arguments after a subcommand's name. */
+struct args {
+    int count;
+    char **at;
+};
+
+/* The subcommands of main.c's table, a file each. False: called with the wrong arguments, and nothing is done. */
+bool verdict(struct args *args);
+bool replay(struct args *args);
+bool show(struct args *args);
+bool make(struct args *args);
+
+/* Says on standard error what is wrong, and ends with status 2. */
+_Noreturn void fail(const char *format, ...) __attribute__((format(printf, 1, 2)));
+
+/* Takes an option and its value out of the arguments. NULL: it is not there. */
+const char *take_option(struct args *args, const char *name);
+
+/* The number that a text writes, decimal or 0x.., from 0 to `most`; fails for any other text. */
+unsigned long number(const char *what, const char *text, unsigned long most);
+
+/* Heap of exactly that many bytes; fails where there is none. */
+uint8_t *space(size_t len);
+
+struct sheet {
+    uint8_t *bytes;
+    size_t len;
+};
+
+/* The sheet in a file, or on standard input for "-". Its first 64 bytes decide every answer, since the longest sheet has 52. */
+struct sheet read_sheet(const char *path);
+
+/* The names of the policies, by number. */
+enum { POLICIES = 4 };
+extern const char *const policy_names[POLICIES];
+
+/* What a refusal says. */
+const char *reason(unsigned refusal);
+
+/* The status after an answer: 0, unless what was printed could not be written. */
+int finish(void);
+
+#endif
