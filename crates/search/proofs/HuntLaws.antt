@@ -11,19 +11,28 @@ use native.Mathlib.Numerals.{add-one}
 use Rattle.tasks.specs.Table.{tableFault}
 use Rattle.tasks.specs.State.{improper}
 use Rattle.tasks.specs.Tick.{after, missed}
+use Rattle.tasks.specs.Masks.{freeMask}
 use Rattle.tasks.specs.declared.state.State.{State}
 use Rattle.tasks.specs.declared.table.Table.{Table}
 use Rattle.tasks.proofs.Bools.{by-bool, clash}
 use Rattle.tasks.proofs.More.{full-miss}
+use Rattle.tasks.proofs.Free.{free-full}
 use Rattle.levels.specs.Levels.{Calm, Hunting}
 use Rattle.levels.proofs.Explore.{hunt-next}
 use Rattle.levels.proofs.Legal.{calm-legal}
 use Rattle.search.specs.System.{system}
-use Rattle.search.specs.Masks.{submask, freeMask, follows}
+use Rattle.search.specs.Masks.{follows}
 use Rattle.search.specs.Slot.{stateAt}
-use Rattle.search.specs.Keeping.{Level, MissFrom, CalmTo}
-use Rattle.search.proofs.MaskLaws.{next-submask, no-bits, submask-legal, free-full}
+use Rattle.search.specs.Keeping.{Level, MissFrom}
+use Rattle.search.proofs.MaskTest.{submask}
+use Rattle.search.proofs.MaskLaws.{next-submask, no-bits, submask-legal}
 use Rattle.search.proofs.SystemLaws.{step-missed, step-next, legal-or-refused}
+
+-- the submasks of free before m do not miss from s
+pub record CalmTo (t : Table) (s : State) (free m : ℕ) : Type 0 where
+  pub most : m ≤ 256
+  pub is : m < 256 → submask free m ≡ true
+  pub calm : (q : ℕ) → q < m → submask free q ≡ true → missed t (after t s q) ≡ false
 
 -- a submask before the one that follows m is before m, or m
 pub passed : {free m : ℕ} → free < 256 → m < 256 → submask free m ≡ true → (q : ℕ) → q < follows free m → submask free q ≡ true → (q < m) ⊎ (q ≡ m)

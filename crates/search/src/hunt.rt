@@ -2,7 +2,7 @@
 ghost use mathlib.Core.Path.{_≡_};
 ghost use Prim.Native.Nat.{_≤_};
 ghost use Rattle.tasks.specs.Ticker.{tickerOf};
-ghost use Rattle.search.specs.Keeping.{Level, Hunted};
+ghost use Rattle.search.specs.Keeping.{Level, HuntIs};
 use crate::masks::follow;
 use crate::slots::words_at;
 use tasks::Table;
@@ -19,7 +19,7 @@ pub(crate) enum HuntAnswer {
 // may be released: it is tried first, and the others only where it misses.
 pub(crate) fn hunt(t: Table, ticker: Ticker, work: &[u8], lo: usize, hi: usize) -> HuntAnswer
     requires { ⌜ (ticker ≡ tickerOf t) × (lo ≤ hi) × Level t (now work) hi ⌝ }
-    ensures { λ r. ⌜ Hunted t (now (work .entry)) lo hi r ⌝ }
+    ensures { λ r. ⌜ HuntIs t (now (work .entry)) lo hi r ⌝ }
 {
     let mut i = lo;
     'hunt: loop {

@@ -24,5 +24,6 @@ pub mod Proper
 pub mod Late
 pub mod InWords
 pub mod More
+pub mod Free
 pub mod Answered
 pub mod Played

@@ -4,16 +4,15 @@ use Prim.Native.Nat.{ℕ, _-_, _≤_, _<_}
 use mathlib.Core.Logic.{⊎-elim}
 use Rattle.tasks.specs.Tick.{after, missed}
 use Rattle.tasks.specs.Words.{stateOf}
+use Rattle.tasks.specs.Masks.{freeMask}
 use Rattle.tasks.specs.Ticker.{tickedBy}
 use Rattle.tasks.proofs.Ticking.{TableBytes, WordList}
+use Rattle.tasks.proofs.Free.{ticks, frees}
 use Rattle.levels.specs.Levels.{Calm, Hunting}
 use Rattle.levels.proofs.Explore.{hunt-start}
 use Rattle.search.specs.System.{system}
-use Rattle.search.specs.Masks.{freeMask}
 use Rattle.search.specs.Slot.{stateAt}
-use Rattle.search.specs.Keeping.{CalmTo}
-use Rattle.search.proofs.TickerLaws.{ticks, frees}
-use Rattle.search.proofs.HuntLaws.{calm-start, calm-next, calm-falls, calm-end, calm-full, hunt-turn, miss-from}
+use Rattle.search.proofs.HuntLaws.{CalmTo, calm-start, calm-next, calm-falls, calm-end, calm-full, hunt-turn, miss-from}
 use native.Mathlib.Omega.{arith}
 use borrow.Author.Needs.{needs}
 use Rattle.search.proofs.hunt.hunt.Statement.{statement}

@@ -3,8 +3,7 @@ use mathlib.Core.Path.{_≡_, refl, ap, _∙_}
 use Prim.Native.Nat.{_-_}
 use lib.ListN.{length}
 use Rattle.tasks.specs.Words.{stateOf}
-use Rattle.search.specs.Keeping.{Stands}
-use Rattle.search.proofs.RunLaws.{none-indexed, first-stands, stands-level, stands-trace, next-stands, ran-miss, ran-safe, ran-full}
+use Rattle.search.proofs.RunLaws.{Stands, none-indexed, first-stands, stands-level, stands-trace, next-stands, ran-miss, ran-safe, ran-full}
 use native.Mathlib.Omega.{arith}
 use borrow.Author.Needs.{needs}
 use Rattle.search.proofs.run.run_levels.Statement.{statement}
