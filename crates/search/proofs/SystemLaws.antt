@@ -117,6 +117,11 @@ replayOf (ReplayAnswer.Played Outcome.Kept) s = Kept s
 replayOf (ReplayAnswer.Played (Outcome.Missed k)) s = MissedAt k s
 replayOf (ReplayAnswer.Refused r k) s = RefusedAt k
 
+missed-answer : (a : ReplayAnswer) (s : State) {L : ℕ} {u : State} → replayOf a s ≡ MissedAt L u → a ≡ ReplayAnswer.Played (Outcome.Missed L)
+missed-answer (ReplayAnswer.Played Outcome.Kept) s e = absurd (let z : _≡_ {A = ℕ} 0 1 = cc in omega arith)
+missed-answer (ReplayAnswer.Played (Outcome.Missed k)) s {L} e = let z : k ≡ L = cc in rw z
+missed-answer (ReplayAnswer.Refused r k) s e = absurd (let z : _≡_ {A = ℕ} 0 1 = cc in omega arith)
+
 step-replay :
     (k : ℕ) (a : TickAnswer) (s s′ : State) (rest : Replayed) (go : State → Replay State) → go s′ ≡ replayOf (rest .answer) (rest .state)
     → levels.goOn k (tickOf a s′) go ≡ replayOf (tasks.next (k + 1) s s′ rest a .answer) (tasks.next (k + 1) s s′ rest a .state)
@@ -142,3 +147,10 @@ module _ (t : Table) where
       → replay (system t) l ≡ replayOf (tasks.replayed t l .answer) (tasks.replayed t l .state)
   replay-same valid l f =
       played-replay l f 0 start ∙ ap (λ r. replayOf (r .answer) (r .state)) (replayed-played t l (omega arith))
+
+  -- LAW: where the system's replay is Missed at a tick, so is the replay of `tasks`
+  pub replay-missed :
+      tableFault t ≡ 0 → (l : List ℕ) → ((i : ℕ) → getD l i 0 < 256) → {L : ℕ} {u : State} → replay (system t) l ≡ MissedAt L u
+      → tasks.replayed t l .answer ≡ ReplayAnswer.Played (Outcome.Missed L)
+  replay-missed valid l f e =
+      missed-answer (tasks.replayed t l .answer) (tasks.replayed t l .state) (sym (replay-same valid l f) ∙ e)
