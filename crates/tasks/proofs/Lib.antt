@@ -25,5 +25,6 @@ pub mod Late
 pub mod InWords
 pub mod More
 pub mod Free
+pub mod NoMiss
 pub mod Answered
 pub mod Played

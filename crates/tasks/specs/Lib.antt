@@ -8,5 +8,6 @@ pub mod Tick
 pub mod Places
 pub mod Masks
 pub mod Words
+pub mod Tight
 pub mod Ticker
 pub mod Replay
