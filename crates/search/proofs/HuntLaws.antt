@@ -12,11 +12,13 @@ use Rattle.tasks.specs.Table.{tableFault}
 use Rattle.tasks.specs.State.{improper}
 use Rattle.tasks.specs.Tick.{after, missed}
 use Rattle.tasks.specs.Masks.{freeMask}
+use Rattle.tasks.specs.Tight.{tight}
 use Rattle.tasks.specs.declared.state.State.{State}
 use Rattle.tasks.specs.declared.table.Table.{Table}
 use Rattle.tasks.proofs.Bools.{by-bool, clash}
-use Rattle.tasks.proofs.More.{full-miss}
+use Rattle.tasks.proofs.More.{full-legal, full-miss}
 use Rattle.tasks.proofs.Free.{free-full}
+use Rattle.tasks.proofs.NoMiss.{miss-tight}
 use Rattle.levels.specs.Levels.{Calm, Hunting}
 use Rattle.levels.proofs.Explore.{hunt-next}
 use Rattle.levels.proofs.Legal.{calm-legal}
@@ -73,7 +75,14 @@ module _ (t : Table) (valid : tableFault t ≡ 0) (s : State) (proper : improper
       let z : _≡_ {A = ℕ} 0 1 = cc in
       omega arith)
 
-  -- the mask of all tasks that may be released does not miss, so no mask does
+  -- no job is tight, so the mask of all tasks that may be released does not miss
+  pub calm-tight : tight t s ≡ false → missed t (after t s (freeMask t s)) ≡ false
+  calm-tight e =
+      by-bool (missed t (after t s (freeMask t s)))
+      (λ h. clash (miss-tight t s valid proper (freeMask t s) (full-legal t s (freeMask t s) (free-full t s)) h) e)
+      (λ h. h)
+
+  -- .. and where it does not miss, no mask does
   pub calm-full : missed t (after t s (freeMask t s)) ≡ false → Calm (system t) s
   calm-full e =
       calm-legal (system t) s {Legal = λ q. (q < 256) × (submask (freeMask t s) q ≡ true)} (legal-or-refused t valid s proper)
