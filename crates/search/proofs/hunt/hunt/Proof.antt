@@ -50,7 +50,7 @@ may-miss-requires c κs =
     let pre = c .before .before .before .before .pre in
     let h = c .before .before .hunt in
     let ne = c .before .if1 .left in
-    (pre .0, pre .2 .valid, rw (c .words-at .ensures) (pre .2 .proper (h .i) (omega arith)))
+    (pre .0, pre .2 .valid, rw (c .words-at .ensures) (pre .2 .proper _ (omega arith)))
 
 free-requires : tie.Need-free-requires Inv-loop μ-loop Inv-hunt μ-hunt
 free-requires c κs = search needs

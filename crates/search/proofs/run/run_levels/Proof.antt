@@ -76,7 +76,8 @@ store-level-requires : tie.Need-store-level-requires Inv-loop μ-loop
 store-level-requires c κs =
     let stands = c .before .before .before .before .before .before .loop .inv .2 in
     let pre = c .before .before .before .before .before .before .before .before .before .before .before .before .before .before .before .before .before .pre in
-    (pre .0, stands .standing .explored .order, stands-level (pre .1) stands, stands .room)
+    let order = stands .standing .explored .order in
+    (pre .0, omega arith, stands-level (pre .1) stands, stands .room)
 
 enum-told-2 : tie.Need-enum-told-2 Inv-loop μ-loop
 enum-told-2 c = search needs
