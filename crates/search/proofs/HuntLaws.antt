@@ -1,7 +1,7 @@
 -- The laws of the hunt: the masks of a slot in increasing order, and the slots of a level. Assumes nothing.
 use Prim.Native.Nat.{ℕ, _+_, _≤_, _<_}
-use mathlib.Core.Path.{_≡_}
-use mathlib.Core.Bool.{true, false}
+use mathlib.Core.Path.{_≡_, sym, _∙_}
+use mathlib.Core.Bool.{Bool, true, false}
 use mathlib.Core.Logic.{_⊎_}
 use mathlib.Core.Logic._⊎_.{inl, inr}
 use mathlib.Core.List.{List}
@@ -83,7 +83,7 @@ module _ (t : Table) (valid : tableFault t ≡ 0) (s : State) (proper : improper
       (λ h. h)
 
   -- .. and where it does not miss, no mask does
-  pub calm-full : missed t (after t s (freeMask t s)) ≡ false → Calm (system t) s
+  calm-full : missed t (after t s (freeMask t s)) ≡ false → Calm (system t) s
   calm-full e =
       calm-legal (system t) s {Legal = λ q. (q < 256) × (submask (freeMask t s) q ≡ true)} (legal-or-refused t valid s proper)
       (λ q l u r.
@@ -94,6 +94,10 @@ module _ (t : Table) (valid : tableFault t ≡ 0) (s : State) (proper : improper
       let n = step-next t valid s proper q (l .0) (l .1) h in
       let z : _≡_ {A = ℕ} 0 1 = cc in
       omega arith))
+
+  -- the test of a slot: u is the state that its words have
+  pub calm-test : {u : State} {r : Bool} → u ≡ s → r ≡ missed t (after t u (freeMask t u)) → r ≡ false → Calm (system t) s
+  calm-test here e f = calm-full (sym (rw here at e) ∙ f)
 
 -- the slots before i + 1 are calm
 pub hunt-turn : (t : Table) (w : List ℕ) {lo i : ℕ} → Hunting (system t) (stateAt w) lo i → Calm (system t) (stateAt w i) → Hunting (system t) (stateAt w) lo (i + 1)

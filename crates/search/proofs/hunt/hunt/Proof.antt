@@ -12,7 +12,7 @@ use Rattle.levels.specs.Levels.{Calm, Hunting}
 use Rattle.levels.proofs.Explore.{hunt-start}
 use Rattle.search.specs.System.{system}
 use Rattle.search.specs.Slot.{stateAt}
-use Rattle.search.proofs.HuntLaws.{CalmTo, calm-start, calm-next, calm-falls, calm-end, calm-full, hunt-turn, miss-from}
+use Rattle.search.proofs.HuntLaws.{CalmTo, calm-start, calm-next, calm-falls, calm-end, calm-test, hunt-turn, miss-from}
 use native.Mathlib.Omega.{arith}
 use borrow.Author.Needs.{needs}
 use Rattle.search.proofs.hunt.hunt.Statement.{statement}
@@ -111,7 +111,7 @@ hunt-again c =
     let calm : Calm (system (a .t)) s =
     ⊎-elim
     (λ w. calm-end (a .t) (level .valid) s proper (rw (← w .3 .inv .1) (w .3 .inv .0)) (w .4 .left))
-    (λ w. calm-full (a .t) (level .valid) s proper (rw (c .before .before .words-at .ensures) at (sym (c .before .may-miss .ensures) ∙ w .left)))
+    (λ w. calm-test (a .t) (level .valid) s proper (c .before .before .words-at .ensures) (c .before .may-miss .ensures) (w .left))
     (c .if2 .came) in
     (omega arith, omega arith, hunt-turn (a .t) (a .work .now) (h .inv .2) calm)
 
