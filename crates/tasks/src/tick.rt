@@ -24,14 +24,13 @@ fn answered(answer: TickAnswer, state: State) -> Ticked
 }
 
 impl State {
-    // Steps 1 to 4 of a tick, for any table, state and mask, by the table made ready.
+    // Steps 1 to 4 of a tick, for any table, state and mask: release, choose, run.
     pub fn advance(self, t: Table, mask: u8) -> State
         ensures { λ r. ⌜ r ≡ after t self mask ⌝ }
     {
-        let ticker = t.ticker();
-        let state = ticker.prepare(self.words());
-        let words = ticker.after(state, mask);
-        State::of_words(words)
+        let released = self.release(t, mask);
+        let run = released.choose(t);
+        released.run(run)
     }
 
     // Why a tick is refused: the first of 4 to 7, 13 and 11 that applies, and 0 where none does.
