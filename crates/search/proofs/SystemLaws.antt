@@ -107,7 +107,7 @@ module _ (t : Table) (valid : tableFault t ≡ 0) where
 
 step-replay :
     (k : ℕ) (a : TickAnswer) (s s′ : State) (rest : Replayed) (go : State → Replay State) → go s′ ≡ replayOf (rest .answer) (rest .state)
-    → levels.after k (outcome a s′) go ≡ replayOf (tasks.next (k + 1) s s′ rest a .answer) (tasks.next (k + 1) s s′ rest a .state)
+    → levels.after k (outcome a s′) go ≡ replayOf (tasks.playNext (k + 1) s s′ rest a .answer) (tasks.playNext (k + 1) s s′ rest a .state)
 step-replay k Answer.Next s s′ rest go e = e
 step-replay k Answer.Missed s s′ rest go e = rw add-one
 step-replay k (Answer.Refused r) s s′ rest go e = rw add-one

@@ -1,6 +1,7 @@
 // One tick: its refusals, and the state after it.
 ghost use mathlib.Core.Path.{_≡_};
-ghost use Rattle.tasks.specs.Tick.{after, refusal, tickNumber, answered, ticked};
+ghost use Rattle.tasks.specs.Answers.{tickAnswer};
+ghost use Rattle.tasks.specs.Tick.{after, refusal, answered, ticked};
 use crate::state::State;
 use crate::table::Table;
 
@@ -52,7 +53,7 @@ impl State {
 
     // One tick: a refusal with the state given, or Missed or Next with the state after it.
     pub fn tick(self, t: Table, mask: u8) -> Ticked
-        ensures { λ r. ⌜ (r ≡ ticked t self mask) × (tickNumber (r .answer) ≡ refusal t self mask) ⌝ }
+        ensures { λ r. ⌜ (tickAnswer r ≡ tickAnswer (ticked t self mask)) × (r .state ≡ ticked t self mask .state) ⌝ }
     {
         let why = self.refusal(t, mask);
         if 0 < why {
