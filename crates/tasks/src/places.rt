@@ -92,7 +92,7 @@ impl State {
     }
 
     // Steps 2 and 3 of a tick: which tasks run.
-    pub fn choose(self, t: Table) -> [bool; 8]
+    pub(crate) fn choose(self, t: Table) -> [bool; 8]
         ensures { λ r. ⌜ r ≡ chosen t self ⌝ }
     {
         let places = self.places(t);

@@ -60,7 +60,7 @@ impl State {
     }
 
     // Step 1 of a tick: each task whose bit is set gets c = C and p = P.
-    pub fn release(self, t: Table, mask: u8) -> State
+    pub(crate) fn release(self, t: Table, mask: u8) -> State
         ensures { λ r. ⌜ r ≡ released t self mask ⌝ }
     {
         let mut c = [0u8; 8];
@@ -76,7 +76,7 @@ impl State {
     }
 
     // Step 4 of a tick, where the tasks of `run` run: their c falls by 1, and every p above 0 does.
-    pub fn run(self, run: [bool; 8]) -> State
+    pub(crate) fn run(self, run: [bool; 8]) -> State
         ensures { λ r. ⌜ r ≡ ran self run ⌝ }
     {
         let mut c = [0u8; 8];
@@ -100,7 +100,7 @@ impl State {
     }
 
     // Step 5 of a tick: whether some job is late.
-    pub fn missed(self, t: Table) -> bool
+    pub(crate) fn missed(self, t: Table) -> bool
         ensures { λ r. ⌜ r ≡ missed t self ⌝ }
     {
         let mut found = false;
@@ -170,7 +170,7 @@ impl State {
     }
 
     // Whether the state is not proper.
-    pub fn improper(self, t: Table) -> bool
+    pub(crate) fn improper(self, t: Table) -> bool
         ensures { λ r. ⌜ r ≡ improper t self ⌝ }
     {
         self.any_improper(t) | (t.m < self.count_kept(t))
@@ -187,7 +187,7 @@ impl State {
     }
 
     // Whether the mask is not legal.
-    pub fn illegal(self, t: Table, mask: u8) -> bool
+    pub(crate) fn illegal(self, t: Table, mask: u8) -> bool
         ensures { λ r. ⌜ r ≡ illegal t self mask ⌝ }
     {
         let mut found = false;

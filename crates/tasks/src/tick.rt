@@ -26,7 +26,7 @@ fn answered(answer: TickAnswer, state: State) -> Ticked
 
 impl State {
     // Steps 1 to 4 of a tick, for any table, state and mask: release, choose, run.
-    pub fn advance(self, t: Table, mask: u8) -> State
+    pub(crate) fn advance(self, t: Table, mask: u8) -> State
         ensures { λ r. ⌜ r ≡ after t self mask ⌝ }
     {
         let released = self.release(t, mask);
