@@ -4,7 +4,7 @@ use mathlib.Core.Path.{_≡_, refl, ap, ap₂}
 use mathlib.Core.List.{List, _∷_}
 use native.Mathlib.Omega.{arith}
 use lib.ListN.{getD}
-use Rattle.tasks.specs.Answers.{numberAnswer, readingAnswer, sheetAnswer, writingAnswer, nextAnswer, tickAnswer, playAnswer, replayAnswer}
+use Rattle.tasks.specs.Answers.{numberAnswer, readingAnswer, sheetAnswer, writingAnswer, tickFigures, tickAnswer, replayFigures, replayAnswer}
 use Rattle.tasks.specs.declared.table.Table.{Table}
 use Rattle.tasks.specs.declared.number.Number.{Number}
 use Rattle.tasks.specs.declared.number.Number.the-variants as Number
@@ -67,42 +67,42 @@ sheet-told e = (ap sheetAnswer e, ap (λ (x : Sheet). x .table) e)
 
 -- ---- ticks
 
-next-is : {a b : TickAnswer} (s u : State) → nextAnswer a s ≡ nextAnswer b u → a ≡ b
-unfolding nextAnswer
-next-is {a = Tick.Next} {b = Tick.Next} s u e = refl
-next-is {a = Tick.Next} {b = Tick.Missed} s u e = other (λ h. omega arith) e
-next-is {a = Tick.Next} {b = Tick.Refused r} s u e = other (λ h. omega arith) e
-next-is {a = Tick.Missed} {b = Tick.Next} s u e = other (λ h. omega arith) e
-next-is {a = Tick.Missed} {b = Tick.Missed} s u e = refl
-next-is {a = Tick.Missed} {b = Tick.Refused r} s u e = other (λ h. omega arith) e
-next-is {a = Tick.Refused r} {b = Tick.Next} s u e = other (λ h. omega arith) e
-next-is {a = Tick.Refused r} {b = Tick.Missed} s u e = other (λ h. omega arith) e
-next-is {a = Tick.Refused r} {b = Tick.Refused q} s u e = ap Tick.Refused (second e)
+tick-answer-is : {a b : TickAnswer} (s u : State) → tickFigures a s ≡ tickFigures b u → a ≡ b
+unfolding tickFigures
+tick-answer-is {a = Tick.Next} {b = Tick.Next} s u e = refl
+tick-answer-is {a = Tick.Next} {b = Tick.Missed} s u e = other (λ h. omega arith) e
+tick-answer-is {a = Tick.Next} {b = Tick.Refused r} s u e = other (λ h. omega arith) e
+tick-answer-is {a = Tick.Missed} {b = Tick.Next} s u e = other (λ h. omega arith) e
+tick-answer-is {a = Tick.Missed} {b = Tick.Missed} s u e = refl
+tick-answer-is {a = Tick.Missed} {b = Tick.Refused r} s u e = other (λ h. omega arith) e
+tick-answer-is {a = Tick.Refused r} {b = Tick.Next} s u e = other (λ h. omega arith) e
+tick-answer-is {a = Tick.Refused r} {b = Tick.Missed} s u e = other (λ h. omega arith) e
+tick-answer-is {a = Tick.Refused r} {b = Tick.Refused q} s u e = ap Tick.Refused (second e)
 
 -- LAW: a tick's answer is told by its figures and its state
 pub tick-is : {a b : Ticked} → (tickAnswer a ≡ tickAnswer b) × (a .state ≡ b .state) → a ≡ b
 unfolding tickAnswer
-tick-is {a} {b} e = ap₂ (λ x s. record { answer = x; state = s }) (next-is (a .state) (b .state) (e .0)) (e .1)
+tick-is {a} {b} e = ap₂ (λ x s. record { answer = x; state = s }) (tick-answer-is (a .state) (b .state) (e .0)) (e .1)
 
 pub tick-told : {a b : Ticked} → a ≡ b → (tickAnswer a ≡ tickAnswer b) × (a .state ≡ b .state)
 tick-told e = (ap tickAnswer e, ap (λ (x : Ticked). x .state) e)
 
-play-is : {a b : ReplayAnswer} (s u : State) → playAnswer a s ≡ playAnswer b u → a ≡ b
-unfolding playAnswer
-play-is {a = Replay.Played Outcome.Kept} {b = Replay.Played Outcome.Kept} s u e = refl
-play-is {a = Replay.Played Outcome.Kept} {b = Replay.Played (Outcome.Missed k)} s u e = other (λ h. omega arith) e
-play-is {a = Replay.Played Outcome.Kept} {b = Replay.Refused r k} s u e = other (λ h. omega arith) e
-play-is {a = Replay.Played (Outcome.Missed k)} {b = Replay.Played Outcome.Kept} s u e = other (λ h. omega arith) e
-play-is {a = Replay.Played (Outcome.Missed k)} {b = Replay.Played (Outcome.Missed n)} s u e = ap (λ x. Replay.Played (Outcome.Missed x)) (second e)
-play-is {a = Replay.Played (Outcome.Missed k)} {b = Replay.Refused r n} s u e = other (λ h. omega arith) e
-play-is {a = Replay.Refused r k} {b = Replay.Played Outcome.Kept} s u e = other (λ h. omega arith) e
-play-is {a = Replay.Refused r k} {b = Replay.Played (Outcome.Missed n)} s u e = other (λ h. omega arith) e
-play-is {a = Replay.Refused r k} {b = Replay.Refused q n} s u e = ap₂ Replay.Refused (second e) (third e)
+replay-answer-is : {a b : ReplayAnswer} (s u : State) → replayFigures a s ≡ replayFigures b u → a ≡ b
+unfolding replayFigures
+replay-answer-is {a = Replay.Played Outcome.Kept} {b = Replay.Played Outcome.Kept} s u e = refl
+replay-answer-is {a = Replay.Played Outcome.Kept} {b = Replay.Played (Outcome.Missed k)} s u e = other (λ h. omega arith) e
+replay-answer-is {a = Replay.Played Outcome.Kept} {b = Replay.Refused r k} s u e = other (λ h. omega arith) e
+replay-answer-is {a = Replay.Played (Outcome.Missed k)} {b = Replay.Played Outcome.Kept} s u e = other (λ h. omega arith) e
+replay-answer-is {a = Replay.Played (Outcome.Missed k)} {b = Replay.Played (Outcome.Missed n)} s u e = ap (λ x. Replay.Played (Outcome.Missed x)) (second e)
+replay-answer-is {a = Replay.Played (Outcome.Missed k)} {b = Replay.Refused r n} s u e = other (λ h. omega arith) e
+replay-answer-is {a = Replay.Refused r k} {b = Replay.Played Outcome.Kept} s u e = other (λ h. omega arith) e
+replay-answer-is {a = Replay.Refused r k} {b = Replay.Played (Outcome.Missed n)} s u e = other (λ h. omega arith) e
+replay-answer-is {a = Replay.Refused r k} {b = Replay.Refused q n} s u e = ap₂ Replay.Refused (second e) (third e)
 
 -- LAW: a replay's answer is told by its figures and its state
 pub replay-is : {a b : Replayed} → (replayAnswer a ≡ replayAnswer b) × (a .state ≡ b .state) → a ≡ b
 unfolding replayAnswer
-replay-is {a} {b} e = ap₂ (λ x s. record { answer = x; state = s }) (play-is (a .state) (b .state) (e .0)) (e .1)
+replay-is {a} {b} e = ap₂ (λ x s. record { answer = x; state = s }) (replay-answer-is (a .state) (b .state) (e .0)) (e .1)
 
 pub replay-told : {a b : Replayed} → a ≡ b → (replayAnswer a ≡ replayAnswer b) × (a .state ≡ b .state)
 replay-told e = (ap replayAnswer e, ap (λ (x : Replayed). x .state) e)

@@ -45,20 +45,20 @@ writingAnswer (Writing.Refused r) = 0 ∷ r ∷ []
 abbrev pub stateNumbers : State → List ℕ
 stateNumbers s = s .c ++ s .p
 
-unfoldable pub nextAnswer : TickAnswer → State → List ℕ
-nextAnswer Tick.Next s = 1 ∷ stateNumbers s
-nextAnswer Tick.Missed s = 2 ∷ stateNumbers s
-nextAnswer (Tick.Refused r) s = 0 ∷ r ∷ stateNumbers s
+unfoldable pub tickFigures : TickAnswer → State → List ℕ
+tickFigures Tick.Next s = 1 ∷ stateNumbers s
+tickFigures Tick.Missed s = 2 ∷ stateNumbers s
+tickFigures (Tick.Refused r) s = 0 ∷ r ∷ stateNumbers s
 
 -- one tick: the state after it, or the one given
 unfoldable pub tickAnswer : Ticked → List ℕ
-tickAnswer r = nextAnswer (r .answer) (r .state)
+tickAnswer r = tickFigures (r .answer) (r .state)
 
-unfoldable pub playAnswer : ReplayAnswer → State → List ℕ
-playAnswer (Replay.Played Outcome.Kept) s = 1 ∷ stateNumbers s
-playAnswer (Replay.Played (Outcome.Missed k)) s = 2 ∷ k ∷ stateNumbers s
-playAnswer (Replay.Refused r k) s = 0 ∷ r ∷ k ∷ stateNumbers s
+unfoldable pub replayFigures : ReplayAnswer → State → List ℕ
+replayFigures (Replay.Played Outcome.Kept) s = 1 ∷ stateNumbers s
+replayFigures (Replay.Played (Outcome.Missed k)) s = 2 ∷ k ∷ stateNumbers s
+replayFigures (Replay.Refused r k) s = 0 ∷ r ∷ k ∷ stateNumbers s
 
 -- the replay of a list: the tick of the miss or of the refusal, and the state then
 unfoldable pub replayAnswer : Replayed → List ℕ
-replayAnswer r = playAnswer (r .answer) (r .state)
+replayAnswer r = replayFigures (r .answer) (r .state)

@@ -95,18 +95,15 @@ tasksFrom zero i t s at = pick (ltb at (length s)) (refusedWith 8) (acceptedAs t
 tasksFrom (suc k) i t s at =
     afterTask (taskAt s at) (λ task next. tasksFrom k (i + 1) (withTask t i task) s next)
 
--- the sheet from each place on
+-- n tasks, and then the end
 unfoldable pub fromTasks : List ℕ → ℕ → ℕ → ℕ → ℕ → Sheet
 fromTasks s policy m n at = tasksFrom n 0 (emptyTable policy m n) s at
 
-unfoldable pub fromCount : List ℕ → ℕ → ℕ → ℕ → Sheet
-fromCount s policy m at = andThen (fieldAt s at 1 8 6) (fromTasks s policy m)
-
-unfoldable pub fromProcessors : List ℕ → ℕ → ℕ → Sheet
-fromProcessors s policy at = andThen (fieldAt s at 1 8 5) (fromCount s policy)
-
+-- policy, m and n, and then the tasks
 unfoldable pub fromPolicy : List ℕ → ℕ → Sheet
-fromPolicy s at = andThen (fieldAt s at 0 3 4) (fromProcessors s)
+fromPolicy s at =
+    andThen (fieldAt s at 0 3 4)
+    (λ policy a. andThen (fieldAt s a 1 8 5) (λ m b. andThen (fieldAt s b 1 8 6) (λ n next. fromTasks s policy m n next)))
 
 -- what reading a sheet answers
 unfoldable pub sheetOf : List ℕ → Sheet

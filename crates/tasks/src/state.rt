@@ -1,10 +1,11 @@
 // The state by value: its release and run, the miss, and when it is proper.
 ghost use mathlib.Core.Path.{_≡_};
 ghost use Prim.Native.Nat.{_-_, _<_};
-ghost use Rattle.tasks.specs.Lists.{pick, count, any};
-ghost use Rattle.tasks.specs.State.{start, timeLeft, slack, started, keeps, late, improperAt, improper};
+ghost use Rattle.tasks.specs.Lists.{count, any};
+ghost use Rattle.tasks.specs.State.{start, timeLeft, slack, started, keeps, lateJob, late, improperAt, improper};
 ghost use Rattle.tasks.specs.Tick.{bit, released, ran, missed, illegalAt, illegal};
 use crate::table::Table;
+use crate::widths::either;
 
 // For each of eight tasks: the work left c, and the ticks p until it may be released again.
 pub struct State {
@@ -18,13 +19,6 @@ fn has_bit(mask: u8, i: usize) -> bool
     ensures { λ r. ⌜ r ≡ bit mask i ⌝ }
 {
     (mask >> i) % 2 == 1
-}
-
-// x where b holds, else y.
-fn either(b: bool, x: u8, y: u8) -> u8
-    ensures { λ r. ⌜ r ≡ pick b x y ⌝ }
-{
-    if b { x } else { y }
 }
 
 // One less, and 0 for 0.
@@ -42,10 +36,17 @@ fn time_left(deadline: u8, gap: u8, p: u8) -> i16
 }
 
 // The slack: the time left less the work left.
-pub(crate) fn slack_of(deadline: u8, gap: u8, p: u8, c: u8) -> i16
+fn slack_of(deadline: u8, gap: u8, p: u8, c: u8) -> i16
     ensures { λ r. ⌜ r ≡ slack deadline gap p c ⌝ }
 {
     time_left(deadline, gap, p) - (c as i16)
+}
+
+// Whether a job with c work left is late.
+pub(crate) fn late_job(deadline: u8, gap: u8, p: u8, c: u8) -> bool
+    ensures { λ r. ⌜ r ≡ lateJob deadline gap p c ⌝ }
+{
+    (0 < c) & (slack_of(deadline, gap, p, c) < 0)
 }
 
 impl State {
@@ -95,8 +96,7 @@ impl State {
         requires { ⌜ i < 8 ⌝ }
         ensures { λ r. ⌜ r ≡ late t self i ⌝ }
     {
-        let c = self.c[i];
-        (0 < c) & (slack_of(t.deadline[i], t.gap[i], self.p[i], c) < 0)
+        late_job(t.deadline[i], t.gap[i], self.p[i], self.c[i])
     }
 
     // Step 5 of a tick: whether some job is late.
