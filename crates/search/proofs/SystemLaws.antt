@@ -124,7 +124,7 @@ missed-answer (ReplayAnswer.Refused r k) s e = absurd (let z : _≡_ {A = ℕ} 0
 
 step-replay :
     (k : ℕ) (a : TickAnswer) (s s′ : State) (rest : Replayed) (go : State → Replay State) → go s′ ≡ replayOf (rest .answer) (rest .state)
-    → levels.goOn k (tickOf a s′) go ≡ replayOf (tasks.next (k + 1) s s′ rest a .answer) (tasks.next (k + 1) s s′ rest a .state)
+    → levels.goOn k (tickOf a s′) go ≡ replayOf (tasks.playNext (k + 1) s s′ rest a .answer) (tasks.playNext (k + 1) s s′ rest a .state)
 step-replay k Answer.Next s s′ rest go e = e
 step-replay k Answer.Missed s s′ rest go e = rw add-one
 step-replay k (Answer.Refused r) s s′ rest go e = rw add-one

@@ -7,14 +7,8 @@ ghost use lib.Seq.{sets};
 ghost use Rattle.tasks.specs.Words.{stateOf};
 ghost use Rattle.search.specs.Slot.{four, fourAt, stateAt, parentAt, maskAt, linkAt, stateBytes, linkedBytes, unlinked, Cleared};
 use tasks::gap_in;
+use tasks::wide;
 use tasks::work_in;
-
-// The byte as a number that an index or a sum can hold.
-fn wide(x: u8) -> usize
-    ensures { λ r. ⌜ (r ≡ x) × (r < 256) ⌝ }
-{
-    x as usize
-}
 
 // The number of four bytes, low byte first.
 fn joined(x: u8, y: u8, z: u8, u: u8) -> u32

@@ -13,6 +13,7 @@ pub mod Fields
 pub mod Sheets
 pub mod RoundTrip
 pub mod Again
+pub mod Front
 pub mod Order
 pub mod Signed
 pub mod Legal

@@ -9,6 +9,7 @@ mod state;
 mod table;
 mod tick;
 mod ticker;
+mod widths;
 mod words;
 mod writer;
 
@@ -30,6 +31,7 @@ pub use tick::TickAnswer;
 pub use tick::Ticked;
 pub use ticker::Prepared;
 pub use ticker::Ticker;
+pub use widths::wide;
 pub use words::gap_in;
 pub use words::misses;
 pub use words::work_in;
