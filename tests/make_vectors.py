@@ -13,7 +13,6 @@ kind #, whose line is the vector's label. The kinds:
     t  a table                  table R, 0 for a valid one
     w  a table, a length        write LENGTH, or write refused R; then the whole output in hexadecimal
     r  a sheet                  read and written into 64 bytes: round as write, or round refused R
-    c  a table, a state         choose, then 1 or 0 for each of the eight tasks: whether it runs
     k  a table, a state, a mask tick next, tick missed or tick refused R; then the state
     p  a table, masks           replay kept, replay missed TICK or replay refused R TICK; then the state
     v  a sheet, two spaces      search safe N, search unsafe L N, search room K or search refused R; then
@@ -49,7 +48,7 @@ import reference as ref
 from reference import START, State, Table, number_bytes, sheet_bytes, table_of
 
 # The kinds whose vectors are made.
-KINDS = "nstwrckpvq"
+KINDS = "nstwrkpvq"
 
 FOLDER = Path(__file__).resolve().parent.parent / "crates" / "vectors"
 LONGEST_BODY = 4096  # what the program has room for
@@ -119,12 +118,6 @@ def round_vector(label: str, sheet: bytes) -> Vector:
     except ref.Refused as refused:
         line = f"round refused {refused.number}"
     return Vector("r", label, sheet, line)
-
-
-def choose_vector(label: str, table: Table, state: State) -> Vector:
-    running = ref.choose(table, state)
-    flags = [1 if i in running else 0 for i in range(8)]
-    return Vector("c", label, table_bytes(table) + ref.state_bytes(state), f"choose {numbers(flags)}")
 
 
 def tick_vector(label: str, table: Table, state: State, mask: int) -> Vector:
@@ -437,26 +430,26 @@ def state_of(*tasks: tuple[int, int]) -> State:
 NAMES = ("NP-GFP", "P-GFP", "NP-EDF", "P-EDF")
 
 
-def choose_vectors() -> Iterator[Vector]:
-    """The choice is made in any state of a valid table, also in one that a tick refuses."""
-    for policy, name in enumerate(NAMES):
-        one, two = table_of(policy, 1, [(3, 9, 9)] * 4), table_of(policy, 2, [(3, 9, 9)] * 4)
-        yield choose_vector(f"{name}: nothing ready", two, state_of((0, 5), (0, 0)))
-        yield choose_vector(f"{name}: four unstarted, two cores", two, state_of(*[(3, 9)] * 4))
-        yield choose_vector(f"{name}: the last one started, two cores", two, state_of(*[(3, 9)] * 3, (2, 9)))
-        yield choose_vector(f"{name}: all four started, one core", one, state_of(*[(2, 9)] * 4))
-        yield choose_vector(f"{name}: c above C is not started", one, state_of((0, 0), (3, 9), (4, 9), (5, 9)))
-        yield choose_vector(f"{name}: after the nth", one, state_of(*[(0, 0)] * 5, (1, 0), (2, 0)))
-        spread = table_of(policy, 1, [(1, 100, 100), (1, 1, 50), (1, 1, 100), (1, 1, 200), (1, 200, 200)])
-        yield choose_vector(f"{name}: d 100, -49, -99", spread, state_of((1, 100), (1, 0), (1, 0)))
-        yield choose_vector(f"{name}: d 100 and -199", spread, state_of((1, 100), (0, 0), (0, 0), (1, 0)))
-        yield choose_vector(f"{name}: d 100 and 200", spread, state_of((1, 100), (0, 0), (0, 0), (0, 0), (1, 200)))
-        yield choose_vector(f"{name}: d 255 and 200", spread, state_of((1, 255), (0, 0), (0, 0), (0, 0), (1, 200)))
-        yield choose_vector(f"{name}: d -49 three times", spread, state_of((0, 0), (1, 0), (1, 50), (1, 150)))
+def choice_vectors(policy: int, name: str) -> Iterator[Vector]:
+    """The choice alone: ticks that release nothing."""
+    one, two = table_of(policy, 1, [(3, 9, 9)] * 4), table_of(policy, 2, [(3, 9, 9)] * 4)
+    yield tick_vector(f"{name}: nothing ready", two, state_of((0, 5), (0, 0)), 0)
+    yield tick_vector(f"{name}: four unstarted, two cores", two, state_of(*[(3, 9)] * 4), 0)
+    yield tick_vector(f"{name}: the last one started, two cores", two, state_of(*[(3, 9)] * 3, (2, 9)), 0)
+    yield tick_vector(f"{name}: the last two started, two cores", two, state_of(*[(3, 9)] * 2, (2, 9), (1, 9)), 0)
+    yield tick_vector(f"{name}: the last one started, one core", one, state_of(*[(3, 9)] * 3, (2, 9)), 0)
+    yield tick_vector(f"{name}: all four started, one core", one, state_of(*[(2, 9)] * 4), 0)
+    spread = table_of(policy, 1, [(1, 100, 100), (1, 50, 50), (1, 50, 100), (1, 50, 200), (1, 200, 200)])
+    yield tick_vector(f"{name}: d 100 and 200", spread, state_of((1, 100), (0, 0), (0, 0), (0, 0), (1, 200)), 0)
+    yield tick_vector(f"{name}: d 100 and 50", spread, state_of((1, 100), (1, 50)), 0)
+    yield tick_vector(f"{name}: d 1 and 200", spread, state_of((0, 0), (0, 0), (0, 0), (1, 151), (1, 200)), 0)
+    yield tick_vector(f"{name}: d 100 and 99", spread, state_of((1, 100), (0, 0), (0, 0), (0, 0), (1, 99)), 0)
+    yield tick_vector(f"{name}: d 50 three times", spread, state_of((0, 0), (1, 50), (1, 100), (1, 200)), 0)
 
 
 def tick_vectors() -> Iterator[Vector]:
     for policy, name in enumerate(NAMES):
+        yield from choice_vectors(policy, name)
         table = table_of(policy, 1, TWO)
         yield tick_vector(f"{name}: nothing to do", table, START, 0)
         yield tick_vector(f"{name}: C = D = P = 1 released", table_of(policy, 1, [(1, 1, 1)]), START, 1)
@@ -754,7 +747,6 @@ MAKERS = {
     "t": table_vectors,
     "w": write_vectors,
     "r": round_vectors,
-    "c": choose_vectors,
     "k": tick_vectors,
     "p": replay_vectors,
     "v": search_vectors,

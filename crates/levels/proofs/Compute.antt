@@ -15,15 +15,15 @@ use borrow.Author.Tests.{ltb-true, ltb-false}
 use Rattle.levels.specs.Verdict.{System, Tick, Answer, Reaches, Holds, Verdict}
 use Rattle.levels.specs.Verdict.Tick.{Next, Missed, Refused}
 use Rattle.levels.specs.Verdict.Answer.{Unsafe, Safe, NoRoom}
-use Rattle.levels.specs.Levels.{Before, Calm, Hunted, Covered, Explored, Storing}
-use Rattle.levels.specs.Compute.{FinitelyBranching, Node, Trial, Hunt, Level, Outcome, trialsOf, trials, huntBy, hunt, orElse, known, addBy, addState, add, store, storedBy, huntedBy, search, outcome}
+use Rattle.levels.specs.Levels.{Before, Calm, Hunted, Covered, Storing}
+use Rattle.levels.specs.Compute.{Node, Trial, Hunt, Level, Outcome, trialsOf, trials, huntBy, hunt, orElse, known, addBy, addState, add, store, storedBy, huntedBy, search, outcome}
 use Rattle.levels.specs.Compute.Hunt.{Miss, Clear}
 use Rattle.levels.specs.Compute.Level.{Upto, Full}
 use Rattle.levels.specs.Compute.Outcome.{Answered, OutOfFuel}
 use Rattle.levels.proofs.Numbered.{holds-more}
 use Rattle.levels.proofs.Replay.{reach-snoc}
-use Rattle.levels.proofs.Explore.{start-law, hunt-law, open-law, tried-law, push-law, level-law}
-use Rattle.levels.proofs.Legal.{calm-legal, covered-legal}
+use Rattle.levels.proofs.Explore.{Explored, start-law, hunt-law, open-law, tried-law, push-law, level-law}
+use Rattle.levels.proofs.Legal.{FinitelyBranching, calm-legal, covered-legal}
 use Rattle.levels.proofs.Verdicts.{miss-law, safe-law, room-law}
 
 -- a node under a mask

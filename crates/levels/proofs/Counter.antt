@@ -12,8 +12,9 @@ use borrow.Author.Tests.{eqb-true, eqb-false, le-ltb}
 use Rattle.levels.specs.Verdict.{System, Tick, Verdict}
 use Rattle.levels.specs.Verdict.Tick.{Next, Missed, Refused}
 use Rattle.levels.specs.Verdict.Answer.{Unsafe, Safe, NoRoom}
-use Rattle.levels.specs.Compute.{FinitelyBranching, Outcome, outcome}
+use Rattle.levels.specs.Compute.{Outcome, outcome}
 use Rattle.levels.specs.Compute.Outcome.{Answered, OutOfFuel}
+use Rattle.levels.proofs.Legal.{FinitelyBranching}
 use Rattle.levels.proofs.Compute.{outcome-right}
 
 abbrev pick : {A : Type 0} → Bool → A → A → A

@@ -12,11 +12,10 @@ use mathlib.Core.Bool.{Bool, true, false}
 use Rattle.levels.specs.Verdict.{System, Tick, Within, Misses, Distinct, Holds, Numbered, Counts, Least}
 use Rattle.levels.specs.Verdict.Tick.{Next, Missed, Refused}
 use Rattle.levels.specs.Levels.{Calm}
-use Rattle.levels.specs.Compute.{FinitelyBranching}
 use Rattle.levels.proofs.Replay.{within-start, within-next, within-more, miss-snoc, reach-ind}
 use Rattle.levels.proofs.Numbered.{split-last, holds-more, push-distinct, extend, extend-low, extend-last}
 use Rattle.levels.proofs.Explore.{within-none, start-law, hunted-lists}
-use Rattle.levels.proofs.Legal.{calm-legal}
+use Rattle.levels.proofs.Legal.{FinitelyBranching, calm-legal}
 
 -- s is among the first n, or it is not
 decHolds : {S : Type 0} → Discrete S → (at : ℕ → S) (n : ℕ) (s : S) → Dec (Holds at n s)

@@ -9,12 +9,23 @@ use native.Mathlib.Decide.{decLt}
 use lib.ListN.{length}
 use Rattle.levels.specs.Verdict.{System, Within, Misses, Reaches, Distinct, Holds, CountAtMost}
 use Rattle.levels.specs.Verdict.Tick.{Next, Missed}
-use Rattle.levels.specs.Levels.{Before, Calm, Hunted, Hunting, Covered, Explored, Storing}
+use Rattle.levels.specs.Levels.{Before, Calm, Hunted, Hunting, Covered, Storing}
 use Rattle.levels.proofs.Numbered.{split-last, holds-more, push-distinct}
 use Rattle.levels.proofs.Replay.{within-start, within-next, within-more, miss-within, reach-ind}
 
 module _ (sys : System) where
   open System sys using (State, Mask, start, step)
+
+  -- the level is complete: slots 0 to hi - 1 hold the states reached within d ticks, each once; those before lo were tried
+  pub record Explored (at : ℕ → State) (lo hi d : ℕ) : Type 0 where
+    pub order : lo ≤ hi
+    pub distinct : Distinct at hi
+    pub sound : (i : ℕ) → i < hi → Within sys d (at i)
+    pub full : (s : State) → Within sys d s → Holds at hi s
+    pub closed : (i : ℕ) → i < lo → (m : Mask) → Covered sys at hi (at i) m
+    pub calm : (i : ℕ) → i < lo → Calm sys (at i)
+    pub quiet : (l : List Mask) → length l ≤ d → Misses sys l → ⊥
+    pub past : (e : ℕ) → e ≤ d → CountAtMost sys e hi
 
   -- within no tick there is only the start
   pub within-none : (s : State) → Within sys 0 s → start ≡ s
@@ -45,7 +56,7 @@ module _ (sys : System) where
     start-quiet [] h w = let r = w .answer in let z : _≡_ {A = ℕ} 0 1 = cc in omega arith
     start-quiet (m ∷ ms) h w = omega arith
 
-    pub start-law : Explored sys at 0 1 0
+    pub start-law : Explored at 0 1 0
     start-law = record {
       order = omega arith;
       distinct = start-distinct;
@@ -72,7 +83,7 @@ module _ (sys : System) where
       go j l (inl b) = x .calm j l b
       go j l (inr z) = rw z calm
 
-  pub hunt-law : {at : ℕ → State} {lo hi d : ℕ} → Explored sys at lo hi d → Hunting sys at lo hi → Hunted sys d
+  pub hunt-law : {at : ℕ → State} {lo hi d : ℕ} → Explored at lo hi d → Hunting sys at lo hi → Hunted sys d
   hunt-law {at} {lo} {hi} x y s w m t e = go (x .full s w)
     where
       go : Holds at hi s → ⊥
@@ -86,7 +97,7 @@ module _ (sys : System) where
           split (no n) = y .calm (h .place) (omega arith) (h .below) m t here
 
   -- the level is hunted: storing begins, and every pair of the earlier levels was tried
-  pub open-law : {at : ℕ → State} {lo hi d : ℕ} → Explored sys at lo hi d → Hunted sys d → Storing sys at hi hi d (Before lo)
+  pub open-law : {at : ℕ → State} {lo hi d : ℕ} → Explored at lo hi d → Hunted sys d → Storing sys at hi hi d (Before lo)
   open-law x hunted = record {
     order = omega arith;
     distinct = x .distinct;
@@ -165,7 +176,7 @@ module _ (sys : System) where
         go (inl l) = let c = x .past e (omega arith) in record { count = c .count; counts = c .counts; most = (let a = c .most in let b = x .order in omega arith) }
         go (inr z) = rw z (record { count = n; counts = record { at = at; distinct = x .distinct; each = x .new; all = level-full }; most = omega arith })
 
-    pub level-law : Explored sys at hi n (suc d)
+    pub level-law : Explored at hi n (suc d)
     level-law = record {
       order = x .order;
       distinct = x .distinct;

@@ -6,7 +6,7 @@ use Prim.Native.Nat.{ℕ, zero, suc, _-_, _≤_, _<_}
 use native.Mathlib.Omega.{arith}
 use native.Mathlib.Decide.{ℕ-discrete, decLt}
 use Rattle.levels.specs.Verdict.{Holds}
-use Rattle.levels.specs.Index.{Index, Walk}
+use Rattle.levels.specs.Index.{Index}
 use Rattle.levels.proofs.Numbered.{split-last}
 
 -- every bucket is empty
@@ -74,6 +74,12 @@ index-push {S} {hash} {at} {at′} {head} {head′} {link} {link′} {n} {s} x s
         let k : head (hash s) ≡ suc i = sym new ∙ (rw z at e) in
         let b : i < n = omega (arith, x .head-low (hash s)) in
         rw (same i b, z, here) (x .head-hash (hash s) i k)
+
+-- a walk along a chain for s stands at cur: no slot from cur on holds s, and slot cur - 1 is of s's bucket
+pub record Walk {S : Type 0} (hash : S → ℕ) (at : ℕ → S) (n : ℕ) (s : S) (cur : ℕ) : Type 0 where
+  pub low : cur ≤ n
+  pub clear : (i : ℕ) → cur ≤ i → i < n → at i ≡ s → ⊥
+  pub bucket : (i : ℕ) → cur ≡ suc i → hash (at i) ≡ hash s
 
 -- a walk for s
 module _ {S : Type 0} {hash : S → ℕ} {at : ℕ → S} {head link : ℕ → ℕ} {n : ℕ} (x : Index hash at head link n) (s : S) where

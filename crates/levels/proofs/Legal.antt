@@ -2,11 +2,13 @@
 use mathlib.Core.Path.{_≡_, refl, sym, _∙_}
 use mathlib.Core.Logic.{_⊎_, ⊎-elim}
 use mathlib.Core.Logic._⊎_.{inl, inr}
+use mathlib.Core.Bool.{Bool, true, false}
+use mathlib.Core.List.{List, List·Memᴰ}
 use Prim.Native.Nat.{ℕ, suc, _<_}
 use native.Mathlib.Omega.{arith}
 use Rattle.levels.specs.Verdict.{System, Tick, Holds}
 use Rattle.levels.specs.Verdict.Tick.{Next, Missed, Refused}
-use Rattle.levels.specs.Levels.{Before, Row, Calm, Covered, Storing}
+use Rattle.levels.specs.Levels.{Before, Calm, Covered, Storing}
 use Rattle.levels.proofs.Numbered.{split-last}
 use Rattle.levels.proofs.Explore.{tried-law, push-law}
 
@@ -16,6 +18,16 @@ refused-not-missed r e = let z : _≡_ {A = ℕ} 0 1 = cc in omega arith
 
 refused-not-next : {S : Type 0} {o : Tick S} {t : S} → o ≡ Refused → o ≡ Next t → ⊥
 refused-not-next r e = let z : _≡_ {A = ℕ} 0 1 = cc in omega arith
+
+-- the pairs tried: every mask of the slots before slot i, and of slot i those that are done
+abbrev pub Row : {M : Type 0} → ℕ → (M → Type 0) → ℕ → M → Type 0
+Row i Done = λ j m. (j < i) ⊎ ((j ≡ i) × Done m)
+
+-- a finitely branching system: a test tells its states apart, and every mask that is not on the list is refused
+pub record FinitelyBranching (sys : System) (same : sys .State → sys .State → Bool) (masks : List (sys .Mask)) : Type 0 where
+  pub equal : (s t : sys .State) → same s t ≡ true → s ≡ t
+  pub different : (s t : sys .State) → same s t ≡ false → s ≡ t → ⊥
+  pub others : (s : sys .State) (m : sys .Mask) → List·Memᴰ m masks ⊎ (sys .step s m ≡ Refused)
 
 module _ (sys : System) where
   open System sys using (State, Mask, step)

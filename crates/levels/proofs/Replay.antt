@@ -5,7 +5,7 @@ use Prim.Native.Nat.{ℕ, zero, suc, _+_, _≤_, _<_}
 use native.Mathlib.Omega.{arith}
 use native.Mathlib.Nat.{add-zero, zero-add}
 use lib.ListN.{length, length-append}
-use Rattle.levels.specs.Verdict.{Tick, Replay, System, after, replayFrom, replay, Reaches, Misses, Within, Reached}
+use Rattle.levels.specs.Verdict.{Tick, Replay, System, goOn, replayFrom, replay, Reaches, Misses, Within, Reached}
 use Rattle.levels.specs.Verdict.Tick.{Next, Missed, Refused}
 use Rattle.levels.specs.Verdict.Replay.{Kept, MissedAt, RefusedAt}
 
@@ -30,7 +30,7 @@ module _ (sys : System) where
   from-join k s (m ∷ ms) b = go (λ t. from-join (suc k) t ms b) (step s m)
     where
       go : ((t : State) → replayFrom sys (suc k) t (ms ++ b) ≡ onward (replayFrom sys (suc k) t ms) (λ u. replayFrom sys (suc k + length ms) u b))
-          → (o : Tick State) → after k o (λ t. replayFrom sys (suc k) t (ms ++ b)) ≡ onward (after k o (λ t. replayFrom sys (suc k) t ms)) (λ u. replayFrom sys (k + suc (length ms)) u b)
+          → (o : Tick State) → goOn k o (λ t. replayFrom sys (suc k) t (ms ++ b)) ≡ onward (goOn k o (λ t. replayFrom sys (suc k) t ms)) (λ u. replayFrom sys (k + suc (length ms)) u b)
       go ih (Next t) = let e : suc k + length ms ≡ k + suc (length ms) = omega arith in rw e at (ih t)
       go ih (Missed t) = refl
       go ih Refused = refl
@@ -40,7 +40,7 @@ module _ (sys : System) where
   from-raise k j s (m ∷ ms) = go (λ t. from-raise k (suc j) t ms) (step s m)
     where
       go : ((t : State) → replayFrom sys (k + suc j) t ms ≡ raise k (replayFrom sys (suc j) t ms))
-          → (o : Tick State) → after (k + j) o (λ t. replayFrom sys (suc (k + j)) t ms) ≡ raise k (after j o (λ t. replayFrom sys (suc j) t ms))
+          → (o : Tick State) → goOn (k + j) o (λ t. replayFrom sys (suc (k + j)) t ms) ≡ raise k (goOn j o (λ t. replayFrom sys (suc j) t ms))
       go ih (Next t) = let e : k + suc j ≡ suc (k + j) = omega arith in rw e at (ih t)
       go ih (Missed t) = let e : k + suc j ≡ suc (k + j) = omega arith in rw e
       go ih Refused = let e : k + suc j ≡ suc (k + j) = omega arith in rw e
@@ -80,7 +80,7 @@ module _ (sys : System) where
     reach-from (m ∷ ms) k s t p r = go (λ u q. reach-from ms (suc k) u t q) (step s m) refl r
       where
         go : ((u : State) → P (suc k) u → replayFrom sys (suc k) u ms ≡ Kept t → P (suc k + length ms) t)
-            → (o : Tick State) → step s m ≡ o → after k o (λ u. replayFrom sys (suc k) u ms) ≡ Kept t → P (k + suc (length ms)) t
+            → (o : Tick State) → step s m ≡ o → goOn k o (λ u. replayFrom sys (suc k) u ms) ≡ Kept t → P (k + suc (length ms)) t
         go ih (Next u) e r′ = let z : suc k + length ms ≡ k + suc (length ms) = omega arith in rw z at (ih u (keep k s m u p e) r′)
         go ih (Missed u) e r′ = absurd (let z : _≡_ {A = ℕ} 0 1 = cc in omega arith)
         go ih Refused e r′ = absurd (let z : _≡_ {A = ℕ} 0 1 = cc in omega arith)
@@ -94,7 +94,7 @@ module _ (sys : System) where
     miss-from (m ∷ ms) k s i t p r = go (λ u q. miss-from ms (suc k) u i t q) (step s m) refl r
       where
         go : ((u : State) → P (suc k) u → replayFrom sys (suc k) u ms ≡ MissedAt i t → BeforeMiss P (suc k + length ms))
-            → (o : Tick State) → step s m ≡ o → after k o (λ u. replayFrom sys (suc k) u ms) ≡ MissedAt i t → BeforeMiss P (k + suc (length ms))
+            → (o : Tick State) → step s m ≡ o → goOn k o (λ u. replayFrom sys (suc k) u ms) ≡ MissedAt i t → BeforeMiss P (k + suc (length ms))
         go ih (Next u) e r′ = let z : suc k + length ms ≡ k + suc (length ms) = omega arith in rw z at (ih u (keep k s m u p e) r′)
         go ih (Missed u) e r′ = record { ticks = k; fewer = omega arith; state = s; holds = p; mask = m; next = u; missed = e }
         go ih Refused e r′ = absurd (let z : _≡_ {A = ℕ} 0 1 = cc in omega arith)

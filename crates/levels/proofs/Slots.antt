@@ -8,8 +8,9 @@ use Rattle.levels.specs.Verdict.{System, Answer}
 use Rattle.levels.specs.Verdict.Tick.{Next}
 use Rattle.levels.specs.Verdict.Answer.{Unsafe, Safe, NoRoom}
 use Rattle.levels.specs.Slots.{SlotRule, Stored, Complete, countOf}
-use Rattle.levels.specs.Levels.{Explored, Storing}
+use Rattle.levels.specs.Levels.{Storing}
 use Rattle.levels.proofs.Numbered.{split-last, holds-more}
+use Rattle.levels.proofs.Explore.{Explored}
 use Rattle.levels.proofs.Replay.{reached}
 use Rattle.levels.proofs.Verdicts.{reached-within}
 

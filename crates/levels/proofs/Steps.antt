@@ -8,9 +8,10 @@ use native.Mathlib.Decide.{decLt}
 use Rattle.levels.specs.Verdict.{System, Holds, Verdict}
 use Rattle.levels.specs.Verdict.Tick.{Next, Missed, Refused}
 use Rattle.levels.specs.Verdict.Answer.{Unsafe, Safe, NoRoom}
-use Rattle.levels.specs.Levels.{trail, Before, Row, Hunting, Covered, Standing, Filling}
-use Rattle.levels.proofs.Explore.{start-law, hunt-law, open-law, level-law}
-use Rattle.levels.proofs.Legal.{row-open, row-next, row-push, row-close}
+use Rattle.levels.specs.Slots.{SlotRule}
+use Rattle.levels.specs.Levels.{trail, Before, Hunting, Covered, Trailed, Filling}
+use Rattle.levels.proofs.Explore.{Explored, start-law, hunt-law, open-law, level-law}
+use Rattle.levels.proofs.Legal.{Row, row-open, row-next, row-push, row-close}
 use Rattle.levels.proofs.Trails.{trail-length, trailed-start, trailed-next, grown-open, grown-push}
 use Rattle.levels.proofs.Slots.{rule-start, rule-push}
 use Rattle.levels.proofs.Verdicts.{miss-law, safe-law, room-law}
@@ -18,8 +19,16 @@ use Rattle.levels.proofs.Verdicts.{miss-law, safe-law, room-law}
 module _ (sys : System) where
   open System sys using (State, Mask, start, step)
 
+  -- the search stands at level d: the slots before hi are all of it, with their trails and by the slot rule
+  pub record Standing (at : ℕ → State) (parent : ℕ → ℕ) (mask : ℕ → Mask) (zeroth : Mask) (lo hi d : ℕ) : Type 0 where
+    pub deep : d < hi
+    pub explored : Explored sys at lo hi d
+    pub low : (i : ℕ) → i < hi → parent i < hi
+    pub trailed : Trailed sys at parent mask lo hi d
+    pub rule : SlotRule sys at parent mask zeroth hi
+
   -- slot 0 is written
-  pub search-start : (at : ℕ → State) (parent : ℕ → ℕ) (mask : ℕ → Mask) {zeroth : Mask} → at 0 ≡ start → parent 0 ≡ 0 → mask 0 ≡ zeroth → Standing sys at parent mask zeroth 0 1 0
+  pub search-start : (at : ℕ → State) (parent : ℕ → ℕ) (mask : ℕ → Mask) {zeroth : Mask} → at 0 ≡ start → parent 0 ≡ 0 → mask 0 ≡ zeroth → Standing at parent mask zeroth 0 1 0
   search-start at parent mask e p m = record {
     deep = omega arith;
     explored = start-law sys at e;
@@ -30,12 +39,12 @@ module _ (sys : System) where
 
   module _ {at : ℕ → State} {parent : ℕ → ℕ} {mask : ℕ → Mask} {zeroth : Mask} {lo hi d : ℕ} where
     -- a mask misses from a slot of the level
-    pub search-miss : Standing sys at parent mask zeroth lo hi d → {K : ℕ} → hi ≤ K → (i : ℕ) → lo ≤ i → i < hi → (m : Mask) {t : State} → step (at i) m ≡ Missed t
+    pub search-miss : Standing at parent mask zeroth lo hi d → {K : ℕ} → hi ≤ K → (i : ℕ) → lo ≤ i → i < hi → (m : Mask) {t : State} → step (at i) m ≡ Missed t
         → Verdict sys K (Unsafe (suc d) hi) (trail parent mask d i ++ m ∷ [])
     search-miss x room i l h m e = miss-law sys (x .explored) room (trail parent mask d i) m (trail-length parent mask d i) (x .trailed i l h) e
 
     -- no mask misses from a slot of the level: its successors are stored
-    pub search-open : Standing sys at parent mask zeroth lo hi d → Hunting sys at lo hi → Filling sys at parent mask zeroth lo hi hi d (Before lo)
+    pub search-open : Standing at parent mask zeroth lo hi d → Hunting sys at lo hi → Filling sys at parent mask zeroth lo hi hi d (Before lo)
     search-open x hunt = record {
       deep = x .deep;
       storing = open-law sys (x .explored) (hunt-law sys (x .explored) hunt);
@@ -74,7 +83,7 @@ module _ (sys : System) where
       search-close x others = record { deep = x .deep; storing = row-close sys (x .storing) others; grown = x .grown; rule = x .rule }
 
       -- every slot of the level is tried, and slots were filled: the next level
-      pub search-next : Filling sys at parent mask zeroth lo hi n d (Before hi) → hi < n → Standing sys at parent mask zeroth hi n (suc d)
+      pub search-next : Filling sys at parent mask zeroth lo hi n d (Before hi) → hi < n → Standing at parent mask zeroth hi n (suc d)
       search-next x more = record {
         deep = (let a = x .deep in omega arith);
         explored = level-law sys (x .storing) (λ i m h. h);

@@ -11,10 +11,10 @@ use Rattle.levels.specs.Verdict.{System, Answer, Within, Reached, Misses
 use Rattle.levels.specs.Verdict.Tick.{Next, Missed}
 use Rattle.levels.specs.Verdict.Replay.{MissedAt}
 use Rattle.levels.specs.Verdict.Answer.{Unsafe, Safe, NoRoom}
-use Rattle.levels.specs.Levels.{Explored, Storing}
+use Rattle.levels.specs.Levels.{Storing}
 use Rattle.levels.proofs.Numbered.{split-last, push-distinct, extend, extend-low, extend-last, no-more, numbered-unique}
 use Rattle.levels.proofs.Replay.{within-start, within-next, within-more, reached, miss-snoc, miss-ind, reach-ind}
-use Rattle.levels.proofs.Explore.{hunted-lists, level-full}
+use Rattle.levels.proofs.Explore.{Explored, hunted-lists, level-full}
 
 module _ (sys : System) where
   open System sys using (State, Mask, start, step)

@@ -1,20 +1,12 @@
 -- The search as a computation over lists, for systems so small that the checker runs it; proofs/Compute.antt shows that its answer is the verdict.
-use mathlib.Core.Path.{_≡_}
-use mathlib.Core.Logic.{_⊎_}
 use mathlib.Core.Bool.{Bool, true, false}
-use mathlib.Core.List.{List, [], _∷_, _++_, List·Memᴰ}
+use mathlib.Core.List.{List, [], _∷_, _++_}
 use Prim.Native.Nat.{ℕ, zero, suc}
 use lib.ListN.{length}
 use lib.Dec.{ltb}
 use Rattle.levels.specs.Verdict.{System, Tick, Answer}
 use Rattle.levels.specs.Verdict.Tick.{Next, Missed, Refused}
 use Rattle.levels.specs.Verdict.Answer.{Unsafe, Safe, NoRoom}
-
--- a finitely branching system: a test tells its states apart, and every mask that is not on the list is refused
-pub record FinitelyBranching (sys : System) (same : sys .State → sys .State → Bool) (masks : List (sys .Mask)) : Type 0 where
-  pub equal : (s t : sys .State) → same s t ≡ true → s ≡ t
-  pub different : (s t : sys .State) → same s t ≡ false → s ≡ t → ⊥
-  pub others : (s : sys .State) (m : sys .Mask) → List·Memᴰ m masks ⊎ (sys .step s m ≡ Refused)
 
 -- a state, and a list that reaches it
 pub record Node (S M : Type 0) : Type 0 where

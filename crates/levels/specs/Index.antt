@@ -15,9 +15,3 @@ pub record Index {S : Type 0} (hash : S → ℕ) (at : ℕ → S) (head link : �
   pub link-low : (j : ℕ) → j < n → link j ≤ j
   pub link-last : (j i : ℕ) → j < n → link j ≤ i → i < j → hash (at i) ≢ hash (at j)
   pub link-hash : (j i : ℕ) → j < n → link j ≡ suc i → hash (at i) ≡ hash (at j)
-
--- a walk along a chain for s stands at cur: no slot from cur on holds s, and slot cur - 1 is of s's bucket
-pub record Walk {S : Type 0} (hash : S → ℕ) (at : ℕ → S) (n : ℕ) (s : S) (cur : ℕ) : Type 0 where
-  pub low : cur ≤ n
-  pub clear : (i : ℕ) → cur ≤ i → i < n → at i ≡ s → ⊥
-  pub bucket : (i : ℕ) → cur ≡ suc i → hash (at i) ≡ hash s

@@ -1,11 +1,9 @@
 -- Only the search's bookkeeping, no part of its claim: what a search level by level keeps true of its slots.
 -- at i, parent i and mask i are the state, parent and mask of slot i. Level d is in slots lo to hi - 1, and n slots are filled.
 use mathlib.Core.Path.{_≡_}
-use mathlib.Core.Logic.{_⊎_}
 use mathlib.Core.List.{List, [], _∷_, _++_}
 use Prim.Native.Nat.{ℕ, zero, suc, _≤_, _<_}
-use lib.ListN.{length}
-use Rattle.levels.specs.Verdict.{System, Tick, Within, Misses, Reaches, Distinct, Holds, CountAtMost}
+use Rattle.levels.specs.Verdict.{System, Tick, Within, Reaches, Distinct, Holds, CountAtMost}
 use Rattle.levels.specs.Verdict.Tick.{Next, Missed}
 use Rattle.levels.specs.Slots.{SlotRule}
 
@@ -14,13 +12,9 @@ abbrev pub trail : {M : Type 0} → (ℕ → ℕ) → (ℕ → M) → ℕ → �
 trail parent mask zero i = []
 trail parent mask (suc k) i = trail parent mask k (parent i) ++ mask i ∷ []
 
--- the pairs tried of slot and mask: every mask of the slots before slot i ..
+-- the pairs tried of slot and mask: every mask of the slots before slot i
 abbrev pub Before : {M : Type 0} → ℕ → ℕ → M → Type 0
 Before i = λ j m. j < i
-
--- .. and of slot i those that are done
-abbrev pub Row : {M : Type 0} → ℕ → (M → Type 0) → ℕ → M → Type 0
-Row i Done = λ j m. (j < i) ⊎ ((j ≡ i) × Done m)
 
 module _ (sys : System) where
   open System sys using (State, Mask, start, step)
@@ -40,17 +34,6 @@ module _ (sys : System) where
   -- the successor of s under m, if it has one, is among the first n slots
   abbrev pub Covered : (ℕ → State) → ℕ → State → Mask → Type 0
   Covered at n s m = (t : State) → step s m ≡ Next t → Holds at n t
-
-  -- the level is complete: slots 0 to hi - 1 hold the states reached within d ticks, each once; those before lo were tried
-  pub record Explored (at : ℕ → State) (lo hi d : ℕ) : Type 0 where
-    pub order : lo ≤ hi
-    pub distinct : Distinct at hi
-    pub sound : (i : ℕ) → i < hi → Within sys d (at i)
-    pub full : (s : State) → Within sys d s → Holds at hi s
-    pub closed : (i : ℕ) → i < lo → (m : Mask) → Covered at hi (at i) m
-    pub calm : (i : ℕ) → i < lo → Calm (at i)
-    pub quiet : (l : List Mask) → length l ≤ d → Misses sys l → ⊥
-    pub past : (e : ℕ) → e ≤ d → CountAtMost sys e hi
 
   -- the level is hunted and its successors are being stored: those of the pairs tried are among the first n slots
   pub record Storing (at : ℕ → State) (hi n d : ℕ) (Tried : ℕ → Mask → Type 0) : Type 0 where
@@ -75,14 +58,6 @@ module _ (sys : System) where
     pub from : (i : ℕ) → hi ≤ i → i < n → lo ≤ parent i
     pub below : (i : ℕ) → hi ≤ i → i < n → parent i < hi
     pub gives : (i : ℕ) → hi ≤ i → i < n → step (at (parent i)) (mask i) ≡ Next (at i)
-
-  -- the search stands at level d: the slots before hi are all of it, with their trails and by the slot rule
-  pub record Standing (at : ℕ → State) (parent : ℕ → ℕ) (mask : ℕ → Mask) (zeroth : Mask) (lo hi d : ℕ) : Type 0 where
-    pub deep : d < hi
-    pub explored : Explored at lo hi d
-    pub low : (i : ℕ) → i < hi → parent i < hi
-    pub trailed : Trailed at parent mask lo hi d
-    pub rule : SlotRule sys at parent mask zeroth hi
 
   -- the search fills slots with the successors of level d
   pub record Filling (at : ℕ → State) (parent : ℕ → ℕ) (mask : ℕ → Mask) (zeroth : Mask) (lo hi n d : ℕ) (Tried : ℕ → Mask → Type 0) : Type 0 where

@@ -26,10 +26,10 @@ pub data Replay (S : Type 0) : Type 0 where
   RefusedAt : ℕ → Replay S
 
 -- after k ticks one more is answered: go on from its state, or stop with its number, later masks unread
-abbrev pub after : {S : Type 0} → ℕ → Tick S → (S → Replay S) → Replay S
-after k (Next s) go = go s
-after k (Missed s) go = MissedAt (suc k) s
-after k Refused go = RefusedAt (suc k)
+abbrev pub goOn : {S : Type 0} → ℕ → Tick S → (S → Replay S) → Replay S
+goOn k (Next s) go = go s
+goOn k (Missed s) go = MissedAt (suc k) s
+goOn k Refused go = RefusedAt (suc k)
 
 module _ (sys : System) where
   open System sys using (State, Mask, start, step)
@@ -37,7 +37,7 @@ module _ (sys : System) where
   -- a list played from s, after k ticks. A list is any finite series of masks, legal or not; its ticks are its length, read or unread
   abbrev pub replayFrom : ℕ → State → List Mask → Replay State
   replayFrom k s [] = Kept s
-  replayFrom k s (m ∷ ms) = after k (step s m) (λ t. replayFrom (suc k) t ms)
+  replayFrom k s (m ∷ ms) = goOn k (step s m) (λ t. replayFrom (suc k) t ms)
 
   -- a list played from the start state, first tick 1
   abbrev pub replay : List Mask → Replay State

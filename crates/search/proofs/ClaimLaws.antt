@@ -1,25 +1,26 @@
 -- From what the parts of the search leave to the claim: the verdict with its slots cleared, the refusals. Assumes nothing.
 use Prim.Native.Nat.{ℕ, zero, suc, _*_, _/_, _≤_, _<_, min}
 use mathlib.Core.Path.{_≡_, refl, ap, _∙_}
-use mathlib.Core.List.{List}
+use mathlib.Core.List.{List, [], _∷_}
 use native.Mathlib.Omega.{arith}
 use native.Mathlib.Nat.{min-le-left, min-le-right}
-use lib.ListN.{length, getD, replicate, length-replicate}
+use lib.ListN.{length, getD, take, replicate, length-replicate}
 use borrow.Author.Tests.{eq-eqb, ne-eqb, lt-ltb, le-ltb}
 use Rattle.tasks.specs.Table.{tableFault}
 use Rattle.tasks.specs.Sheet.{sheetOf}
 use Rattle.tasks.specs.declared.table.Table.{Table}
 use Rattle.tasks.specs.declared.sheet.Reading.{Reading}
 use Rattle.tasks.specs.declared.sheet.Reading.the-variants as Reading
-use Rattle.levels.specs.Verdict.{Answer}
+use Rattle.levels.specs.Verdict.{Answer, Verdict}
 use Rattle.levels.specs.Verdict.Answer.{Unsafe, Safe, NoRoom}
-use Rattle.levels.specs.Slots.{countOf}
+use Rattle.levels.specs.Slots.{countOf, masksOf}
 use Rattle.levels.proofs.Slots.{rule-same, stored-same, complete-same}
 use Rattle.search.specs.System.{system}
 use Rattle.search.specs.Slot.{Cleared}
-use Rattle.search.specs.Claim.{slotsIn, spacesRefusal, tableRefusal, afterReading, sheetRefusal, Figures, figures, verdictFigures, refusalFigures, Searched, Found, Search}
+use Rattle.search.specs.Claim.{slotsIn, spacesRefusal, tableRefusal, afterReading, sheetRefusal, Figures, figures, verdictFigures, refusalFigures, Replays, Searched, Found, Search}
 use Rattle.search.specs.Keeping.{Spaces, Lent, RanBy, answerOf}
 use Rattle.search.specs.declared.run.SearchAnswer.{SearchAnswer}
+use Rattle.search.proofs.SystemLaws.{replay-missed}
 
 -- the figures of the code's answer for a verdict
 pub answer-figures : (a : Answer) → figures (answerOf a) ≡ verdictFigures a
@@ -32,6 +33,24 @@ answer-count (Unsafe l n) = refl
 answer-count (Safe n) = refl
 answer-count (NoRoom n) = refl
 
+-- ---- the replay of the masks given
+
+take-bytes : (n : ℕ) (l : List ℕ) → ((i : ℕ) → getD l i 0 < 256) → (i : ℕ) → getD (take n l) i 0 < 256
+take-bytes zero l f i = omega arith
+take-bytes (suc n) [] f i = omega arith
+take-bytes (suc n) (x ∷ xs) f zero = f 0
+take-bytes (suc n) (x ∷ xs) f (suc i) = take-bytes n xs (λ j. f (suc j)) i
+
+-- a verdict's masks, where the trace space has bytes, are missed by the replay of `tasks`
+verdict-replays :
+    (t : Table) → tableFault t ≡ 0 → (trace : List ℕ) → ((i : ℕ) → getD trace i 0 < 256) → (k : ℕ) (a : Answer) → Verdict (system t) k a (take (masksOf a) trace)
+    → Replays t trace a
+verdict-replays t valid trace bytes k (Unsafe L n) x = replay-missed t valid (take L trace) (take-bytes L trace bytes) (x .report .missed)
+verdict-replays t valid trace bytes k (Safe n) x = tt
+verdict-replays t valid trace bytes k (NoRoom n) x = tt
+
+-- ---- the verdict with its slots cleared
+
 module _ {t : Table} {w trace heads : List ℕ} {k : ℕ} (spaces : Spaces t w trace heads k) where
   module _ {w₁ trace′ : List ℕ} {a : SearchAnswer} (x : RanBy t w w₁ trace trace′ k a) where
     count : figures a .N ≡ countOf (x .answer)
@@ -42,8 +61,8 @@ module _ {t : Table} {w trace heads : List ℕ} {k : ℕ} (spaces : Spaces t w t
     ran-fits e = let f = spaces .fits in let m = x .ran .most in omega (arith, count)
 
     -- with the links cleared it is the claim
-    pub ran-found : {w₂ : List ℕ} → k ≡ slotsIn w → length w₁ ≡ length w → length trace′ ≡ length trace → Cleared w₁ w₂ (figures a .N) → Found t w w₂ trace trace′ (figures a)
-    ran-found {w₂} is len trace-len y =
+    pub ran-found : {w₂ : List ℕ} → k ≡ slotsIn w → length w₁ ≡ length w → length trace′ ≡ length trace → ((i : ℕ) → getD trace′ i 0 < 256) → Cleared w₁ w₂ (figures a .N) → Found t w w₂ trace trace′ (figures a)
+    ran-found {w₂} is len trace-len bytes y =
         let z : Cleared w₁ w₂ (countOf (x .answer)) = rw count at y in
         let r = x .ran in
         record {
@@ -52,6 +71,7 @@ module _ {t : Table} {w trace heads : List ℕ} {k : ℕ} (spaces : Spaces t w t
           searched =
               record {
                 verdict = rw (← is) (r .verdict);
+                replays = verdict-replays t (spaces .valid) trace′ bytes k (x .answer) (r .verdict);
                 rule = rule-same (system t) (r .rule) (r .some) (z .states) (z .parents) (z .masks);
                 most = rw (← is) (r .most);
                 stored = stored-same (system t) (r .stored) (z .states);

@@ -7,7 +7,6 @@ pub mod TagLaws
 pub mod IndexLaws
 pub mod MaskTest
 pub mod MaskLaws
-pub mod TickerLaws
 pub mod SystemLaws
 pub mod OutcomeLaws
 pub mod HuntLaws

@@ -22,12 +22,12 @@ use Rattle.tasks.proofs.Counts.{any-some}
 use Rattle.tasks.proofs.Legal.{beyond-illegal}
 use Rattle.levels.specs.Verdict.{Answer, Verdict}
 use Rattle.levels.specs.Verdict.Tick.{Refused}
-use Rattle.levels.specs.Compute.{FinitelyBranching}
 use Rattle.levels.specs.Compute.Outcome.{Answered, OutOfFuel}
+use Rattle.levels.proofs.Legal.{FinitelyBranching}
 use Rattle.levels.proofs.Compute.{outcome-right, outcome-ends}
 use Rattle.search.specs.System.{step, system}
-use Rattle.search.specs.Masks.{all}
 use Rattle.search.specs.Outcome.{sameNumbers, sameStates, below, verdictOf}
+use Rattle.search.proofs.MaskTest.{all}
 use Rattle.search.proofs.MaskLaws.{all-at}
 use Rattle.search.proofs.SystemLaws.{step-large, step-refused}
 

@@ -4,7 +4,7 @@ use mathlib.Core.Path.{_≡_, refl, ap, _∙_}
 use mathlib.Core.List.{List, [], _∷_, _++_}
 use native.Mathlib.Omega.{arith}
 use native.Mathlib.Numerals.{add-one}
-use lib.ListN.{take, drop}
+use lib.ListN.{length, take, drop}
 use Rattle.tasks.specs.State.{start}
 use Rattle.tasks.specs.declared.state.State.{State}
 use Rattle.tasks.specs.declared.table.Table.{Table}
@@ -13,14 +13,24 @@ use Rattle.levels.specs.Levels.{trail, Before, Hunting}
 use Rattle.search.proofs.IndexLaws.{indexed-start}
 use Rattle.levels.proofs.Replay.{reached}
 use Rattle.levels.proofs.Slots.{level-stored, miss-complete, filled-stored, safe-complete}
-use Rattle.levels.proofs.Steps.{search-start, search-miss, search-open, search-next, search-safe}
+use Rattle.levels.proofs.Steps.{Standing, search-start, search-miss, search-open, search-next, search-safe}
 use Rattle.search.specs.System.{system}
 use Rattle.search.specs.Slot.{stateAt, parentAt, maskAt, Indexed, Pushed}
-use Rattle.search.specs.Keeping.{FillingIn, Level, MissFrom, Overfull, LevelDone, LevelFull, TraceReady, traced, Spaces, Stands, RanBy}
+use Rattle.search.specs.Keeping.{FillingIn, Level, MissFrom, Room, Overfull, LevelDone, LevelFull, TraceReady, traced, Spaces, RanBy}
 use Rattle.search.specs.declared.run.SearchAnswer.the-variants as SearchAnswer
 use Rattle.search.proofs.SystemLaws.{reached-proper}
 use Rattle.search.proofs.StoreLaws.{later-from}
 use Rattle.search.proofs.TraceLaws.{traced-front, traced-rest}
+
+abbrev pub StandingIn : Table → List ℕ → ℕ → ℕ → ℕ → Type 0
+StandingIn t w lo hi d = Standing (system t) (stateAt w) (parentAt w) (maskAt w) 0 lo hi d
+
+-- the search stands at level d, in slots lo to hi - 1; w is what the work space held when its loop began
+pub record Stands (t : Table) (w w′ heads′ : List ℕ) (k lo hi d : ℕ) : Type 0 where
+  pub room : Room w′ heads′ hi k
+  pub standing : StandingIn t w′ lo hi d
+  pub later : drop (24 * hi) w′ ≡ drop (24 * hi) w
+  pub len : length w′ ≡ length w
 
 module _ {t : Table} {w trace heads : List ℕ} {k : ℕ} (spaces : Spaces t w trace heads k) where
   -- no slot is filled yet

@@ -9,7 +9,7 @@ use lib.ListN.{length, getD}
 use Rattle.tasks.specs.Lists.{pick}
 use Rattle.tasks.specs.Table.{breaks}
 use Rattle.tasks.specs.Number.{above, numberIn, numberAt}
-use Rattle.tasks.specs.Sheet.{ruled, fieldAt, andThen, taskOf, taskThen, taskAt, withTask, afterTask, tasksFrom, fromTasks, fromCount, fromProcessors, fromPolicy, sheetOf, emptyTable, acceptedAs}
+use Rattle.tasks.specs.Sheet.{ruled, fieldAt, andThen, taskOf, taskThen, taskAt, withTask, afterTask, tasksFrom, fromTasks, fromPolicy, sheetOf, emptyTable, acceptedAs}
 use Rattle.tasks.specs.declared.table.Table.{Table}
 use Rattle.tasks.specs.declared.number.Number.{Number}
 use Rattle.tasks.specs.declared.number.Number.the-variants as Number
@@ -93,7 +93,7 @@ tasks-listed (suc k) i t s at =
 
 -- LAW: each refusal of a sheet is one of 1 to 8
 sheet-listed : (s : List ℕ) → ReadingListed (sheetOf s .answer)
-unfolding sheetOf fromPolicy fromProcessors fromCount fromTasks
+unfolding sheetOf fromPolicy fromTasks
 sheet-listed s =
     then-listed (fieldAt s 0 3 3 3) _ (field-listed s 0 3 3 3 (omega arith, omega arith))
     (λ fields a. then-listed (fieldAt s a 0 3 4) _ (field-listed s a 0 3 4 (omega arith, omega arith))

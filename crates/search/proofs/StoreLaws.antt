@@ -11,6 +11,7 @@ use lib.ListN.{drop}
 use lib.Seq.{drop-drop}
 use Rattle.tasks.specs.State.{improper}
 use Rattle.tasks.specs.Tick.{after, missed}
+use Rattle.tasks.specs.Masks.{freeMask}
 use Rattle.tasks.specs.Words.{stateOf}
 use Rattle.tasks.specs.Ticker.{tickedBy}
 use Rattle.tasks.specs.declared.state.State.{State}
@@ -18,15 +19,18 @@ use Rattle.tasks.specs.declared.table.Table.{Table}
 use Rattle.tasks.specs.declared.ticker.Prepared.{Prepared}
 use Rattle.tasks.specs.declared.ticker.Ticker.{Ticker}
 use Rattle.tasks.proofs.Bools.{by-bool}
+use Rattle.tasks.proofs.Free.{free-small}
 use Rattle.levels.specs.Verdict.Tick.{Next, Missed, Refused}
-use Rattle.levels.specs.Levels.{Row}
+use Rattle.levels.specs.Levels.{Before}
+use Rattle.levels.proofs.Legal.{Row}
 use Rattle.levels.proofs.Slots.{filled-stored}
 use Rattle.levels.proofs.Steps.{search-row, search-known, search-push, search-close, search-room}
 use Rattle.search.specs.System.{step, system}
-use Rattle.search.specs.Masks.{submask, freeMask, follows}
+use Rattle.search.specs.Masks.{follows}
 use Rattle.search.specs.Slot.{stateAt}
-use Rattle.search.specs.Keeping.{FillingIn, Level, Room, Known, Added, Crowded, Kept, DoneTo, RowReady, RowTo, RowDone, RowFull, LevelTo, LevelDone, LevelFull}
-use Rattle.search.proofs.MaskLaws.{next-submask, no-bits, free-small}
+use Rattle.search.specs.Keeping.{FillingIn, Level, Room, Known, Added, Crowded, Kept, Carries, RowReady, RowDone, RowFull, LevelDone, LevelFull}
+use Rattle.search.proofs.MaskTest.{submask}
+use Rattle.search.proofs.MaskLaws.{next-submask, no-bits}
 use Rattle.search.proofs.SystemLaws.{step-missed, step-next, legal-or-refused}
 use Rattle.search.proofs.HuntLaws.{passed}
 
@@ -49,6 +53,19 @@ kept-join {w} {w₁} {w₂} {n} {n₁} {n₂} x y =
     }
 
 -- ---- a row
+
+-- the masks of free before m, a row's pairs that are done
+abbrev pub DoneTo : ℕ → ℕ → ℕ → Type 0
+DoneTo free m = λ q. (q < m) × (submask free q ≡ true)
+
+-- a row on the way: w′ and n′ are what has become of w and n, and m is the next mask
+pub record RowTo (t : Table) (w w′ heads′ : List ℕ) (s : State) (k n n′ i free m : ℕ) : Type 0 where
+  pub most : m ≤ 256
+  pub is : m < 256 → submask free m ≡ true
+  pub kept : Kept w w′ n n′
+  pub room : Room w′ heads′ n′ k
+  pub here : s ≡ stateAt w′ i
+  pub carries : Carries t w w′ n n′ i (Before i) (Row i (DoneTo free m))
 
 module _ {t : Table} {w heads : List ℕ} {k n i : ℕ} (ready : RowReady t w heads k n i) {s : State} where
   pub row-start : s ≡ stateAt w i → {free : ℕ} → free < 256 → RowTo t w w heads s k n n i free 0
@@ -175,6 +192,14 @@ pub record RowBy (t : Table) (ticker : Ticker) (state : Prepared) (w w′ heads�
   pub row : RowTo t w w′ heads′ (stateAt w i) k n n′ i free m
 
 -- ---- a level
+
+-- a level on the way: the rows from lo to i - 1 are done
+pub record LevelTo (t : Table) (w w′ heads′ : List ℕ) (k lo hi n i : ℕ) : Type 0 where
+  pub from : lo ≤ i
+  pub upto : i ≤ hi
+  pub kept : Kept w w′ hi n
+  pub room : Room w′ heads′ n k
+  pub filled : (d : ℕ) → FillingIn t w lo hi hi d (Before lo) → FillingIn t w′ lo hi n d (Before i)
 
 pub level-start : {t : Table} {w heads : List ℕ} {k lo hi : ℕ} → lo ≤ hi → Room w heads hi k → LevelTo t w w heads k lo hi hi lo
 level-start h room = record { from = omega arith; upto = h; kept = kept-none; room = room; filled = λ d x. x }

@@ -14,11 +14,16 @@ use borrow.Author.Tests.{lt-ltb, le-ltb}
 use Rattle.tasks.specs.Table.{tableFault}
 use Rattle.tasks.specs.State.{start, improper}
 use Rattle.tasks.specs.Tick.{illegal, after, missed, refusal, ticked}
+use Rattle.tasks.specs.Masks.{freeMask}
 use Rattle.tasks.specs.Replay as tasks
 use Rattle.tasks.specs.declared.state.State.{State}
 use Rattle.tasks.specs.declared.table.Table.{Table}
 use Rattle.tasks.specs.declared.tick.TickAnswer.{TickAnswer}
 use Rattle.tasks.specs.declared.tick.TickAnswer.the-variants as Answer
+use Rattle.tasks.specs.declared.play.Outcome.{Outcome}
+use Rattle.tasks.specs.declared.play.Outcome.the-variants as Outcome
+use Rattle.tasks.specs.declared.play.ReplayAnswer.{ReplayAnswer}
+use Rattle.tasks.specs.declared.play.ReplayAnswer.the-variants as ReplayAnswer
 use Rattle.tasks.specs.declared.play.Replayed.{Replayed}
 use Rattle.tasks.proofs.Bools.{by-bool}
 use Rattle.tasks.proofs.Proper.{start-proper}
@@ -27,9 +32,10 @@ use Rattle.tasks.proofs.Played.{replayed-played}
 use Rattle.levels.specs.Verdict.{Replay, Reached, replayFrom, replay}
 use Rattle.levels.specs.Verdict as levels
 use Rattle.levels.specs.Verdict.Tick.{Next, Missed, Refused}
+use Rattle.levels.specs.Verdict.Replay.{Kept, MissedAt, RefusedAt}
 use Rattle.levels.proofs.Replay.{reach-ind}
-use Rattle.search.specs.System.{outcome, step, system, replayOf}
-use Rattle.search.specs.Masks.{submask, freeMask}
+use Rattle.search.specs.System.{tickOf, step, system}
+use Rattle.search.proofs.MaskTest.{submask}
 use Rattle.search.proofs.MaskLaws.{submask-legal, legal-submask}
 
 module _ (t : Table) (s : State) (m : ℕ) where
@@ -39,7 +45,7 @@ module _ (t : Table) (s : State) (m : ℕ) where
   step-large h = rw (le-ltb m 256 h)
 
   -- a byte's step is the tick's answer
-  pub step-tick : m < 256 → step t s m ≡ outcome (ticked t s m .answer) (ticked t s m .state)
+  pub step-tick : m < 256 → step t s m ≡ tickOf (ticked t s m .answer) (ticked t s m .state)
   unfolding step
   step-tick h = rw (lt-ltb m 256 h)
 
@@ -47,14 +53,14 @@ module _ (t : Table) (s : State) (m : ℕ) where
   pub step-refused : 0 < refusal t s m → step t s m ≡ Refused
   step-refused h =
       elim (decLt m 256) [
-        | yes b ↦ step-tick b ∙ ap (λ r. outcome (r .answer) (r .state)) (sym (ticked-refused t s m h))
+        | yes b ↦ step-tick b ∙ ap (λ r. tickOf (r .answer) (r .state)) (sym (ticked-refused t s m h))
         | no b ↦ step-large (omega arith)
       ]
 
-outcome-next : (a : TickAnswer) (s u : State) → outcome a s ≡ Next u → (a ≡ Answer.Next) × (s ≡ u)
-outcome-next Answer.Next s u e = (refl, cc)
-outcome-next Answer.Missed s u e = absurd (let z : _≡_ {A = ℕ} 0 1 = cc in omega arith)
-outcome-next (Answer.Refused r) s u e = absurd (let z : _≡_ {A = ℕ} 0 1 = cc in omega arith)
+tick-next : (a : TickAnswer) (s u : State) → tickOf a s ≡ Next u → (a ≡ Answer.Next) × (s ≡ u)
+tick-next Answer.Next s u e = (refl, cc)
+tick-next Answer.Missed s u e = absurd (let z : _≡_ {A = ℕ} 0 1 = cc in omega arith)
+tick-next (Answer.Refused r) s u e = absurd (let z : _≡_ {A = ℕ} 0 1 = cc in omega arith)
 
 module _ (t : Table) (valid : tableFault t ≡ 0) where
   module _ (s : State) (proper : improper t s ≡ false) (m : ℕ) where
@@ -64,16 +70,16 @@ module _ (t : Table) (valid : tableFault t ≡ 0) where
 
       -- LAW: a legal mask's step is Missed or Next with the state after the tick
       pub step-missed : missed t (after t s m) ≡ true → step t s m ≡ Missed (after t s m)
-      step-missed e = step-tick t s m small ∙ ap (λ r. outcome (r .answer) (r .state)) (sym (ticked-missed t s m none e))
+      step-missed e = step-tick t s m small ∙ ap (λ r. tickOf (r .answer) (r .state)) (sym (ticked-missed t s m none e))
 
       pub step-next : missed t (after t s m) ≡ false → step t s m ≡ Next (after t s m)
-      step-next e = step-tick t s m small ∙ ap (λ r. outcome (r .answer) (r .state)) (sym (ticked-next t s m none e))
+      step-next e = step-tick t s m small ∙ ap (λ r. tickOf (r .answer) (r .state)) (sym (ticked-next t s m none e))
 
     -- LAW: any other mask is refused
     pub step-illegal : illegal t s m ≡ true → step t s m ≡ Refused
     step-illegal e =
         elim (decLt m 256) [
-          | yes b ↦ step-tick t s m b ∙ ap (λ r. outcome (r .answer) (r .state)) (ticked-illegal t s m valid proper e)
+          | yes b ↦ step-tick t s m b ∙ ap (λ r. tickOf (r .answer) (r .state)) (ticked-illegal t s m valid proper e)
           | no b ↦ step-large t s m (omega arith)
         ]
 
@@ -93,7 +99,7 @@ module _ (t : Table) (valid : tableFault t ≡ 0) where
       elim (decLt m 256) [
         | yes b ↦
             let r = ticked t s m in
-            let k = outcome-next (r .answer) (r .state) u (sym (step-tick t s m b) ∙ e) in
+            let k = tick-next (r .answer) (r .state) u (sym (step-tick t s m b) ∙ e) in
             rw (k .1) at (ticked-proper t s m (k .0))
         | no b ↦ absurd (let q = step-large t s m (omega arith) in let z : _≡_ {A = ℕ} 0 1 = cc in omega arith)
       ]
@@ -105,9 +111,20 @@ module _ (t : Table) (valid : tableFault t ≡ 0) where
 
 -- ---- the replay
 
+-- the answer of a replay with its state, as the system's replay has it
+abbrev pub replayOf : ReplayAnswer → State → Replay State
+replayOf (ReplayAnswer.Played Outcome.Kept) s = Kept s
+replayOf (ReplayAnswer.Played (Outcome.Missed k)) s = MissedAt k s
+replayOf (ReplayAnswer.Refused r k) s = RefusedAt k
+
+missed-answer : (a : ReplayAnswer) (s : State) {L : ℕ} {u : State} → replayOf a s ≡ MissedAt L u → a ≡ ReplayAnswer.Played (Outcome.Missed L)
+missed-answer (ReplayAnswer.Played Outcome.Kept) s e = absurd (let z : _≡_ {A = ℕ} 0 1 = cc in omega arith)
+missed-answer (ReplayAnswer.Played (Outcome.Missed k)) s {L} e = let z : k ≡ L = cc in rw z
+missed-answer (ReplayAnswer.Refused r k) s e = absurd (let z : _≡_ {A = ℕ} 0 1 = cc in omega arith)
+
 step-replay :
     (k : ℕ) (a : TickAnswer) (s s′ : State) (rest : Replayed) (go : State → Replay State) → go s′ ≡ replayOf (rest .answer) (rest .state)
-    → levels.after k (outcome a s′) go ≡ replayOf (tasks.next (k + 1) s s′ rest a .answer) (tasks.next (k + 1) s s′ rest a .state)
+    → levels.goOn k (tickOf a s′) go ≡ replayOf (tasks.playNext (k + 1) s s′ rest a .answer) (tasks.playNext (k + 1) s s′ rest a .state)
 step-replay k Answer.Next s s′ rest go e = e
 step-replay k Answer.Missed s s′ rest go e = rw add-one
 step-replay k (Answer.Refused r) s s′ rest go e = rw add-one
@@ -120,7 +137,7 @@ module _ (t : Table) where
   played-replay [] f k s = refl
   played-replay (m ∷ ms) f k s =
       let r = ticked t s m in
-      ap (λ o. levels.after k o (λ u. replayFrom (system t) (suc k) u ms)) (step-tick t s m (f 0))
+      ap (λ o. levels.goOn k o (λ u. replayFrom (system t) (suc k) u ms)) (step-tick t s m (f 0))
       ∙ step-replay k (r .answer) s (r .state) (tasks.played t (r .state) (k + 1) ms) (λ u. replayFrom (system t) (suc k) u ms)
       (ap (λ n. replayFrom (system t) n (r .state) ms) (sym (add-one k)) ∙ played-replay ms (λ i. f (suc i)) (k + 1) (r .state))
 
@@ -130,3 +147,10 @@ module _ (t : Table) where
       → replay (system t) l ≡ replayOf (tasks.replayed t l .answer) (tasks.replayed t l .state)
   replay-same valid l f =
       played-replay l f 0 start ∙ ap (λ r. replayOf (r .answer) (r .state)) (replayed-played t l (omega arith))
+
+  -- LAW: where the system's replay is Missed at a tick, so is the replay of `tasks`
+  pub replay-missed :
+      tableFault t ≡ 0 → (l : List ℕ) → ((i : ℕ) → getD l i 0 < 256) → {L : ℕ} {u : State} → replay (system t) l ≡ MissedAt L u
+      → tasks.replayed t l .answer ≡ ReplayAnswer.Played (Outcome.Missed L)
+  replay-missed valid l f e =
+      missed-answer (tasks.replayed t l .answer) (tasks.replayed t l .state) (sym (replay-same valid l f) ∙ e)

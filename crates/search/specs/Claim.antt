@@ -8,7 +8,10 @@ use lib.ListN.{length, take, drop}
 use Rattle.tasks.specs.Lists.{pick}
 use Rattle.tasks.specs.Table.{tableFault}
 use Rattle.tasks.specs.Sheet.{sheetOf}
+use Rattle.tasks.specs.Replay.{replayed}
 use Rattle.tasks.specs.declared.table.Table.{Table}
+use Rattle.tasks.specs.declared.play.Outcome.the-variants as Outcome
+use Rattle.tasks.specs.declared.play.ReplayAnswer.the-variants as ReplayAnswer
 use Rattle.tasks.specs.declared.sheet.Reading.{Reading}
 use Rattle.tasks.specs.declared.sheet.Reading.the-variants as Reading
 use Rattle.levels.specs.Verdict.{Answer, Verdict}
@@ -68,10 +71,17 @@ refusalFigures r = record { kind = 0; L = 0; N = r }
 
 -- ---- the one claim
 
+-- Unsafe "gives L masks whose replay is Missed at tick L": the replay that the public call promises, of the first L bytes of the trace space
+abbrev pub Replays : Table → List ℕ → Answer → Type 0
+Replays t trace (Unsafe L n) = replayed t (take L trace) .answer ≡ ReplayAnswer.Played (Outcome.Missed L)
+Replays t trace (Safe n) = Unit {0}
+Replays t trace (NoRoom n) = Unit {0}
+
 -- a verdict of a table, from what the two spaces held to what they hold. K is that of the work space
 pub record Searched (t : Table) (work work′ trace trace′ : List ℕ) (a : Answer) : Type 0 where
   -- demand 3 in full; under Unsafe the masks given are the first L bytes of the trace space
   pub verdict : Verdict (system t) (slotsIn work) a (take (masksOf a) trace′)
+  pub replays : Replays t trace′ a
   -- "the written slots are the first N", which the work space has: slot 0 the start state with parent 0 and mask 0, any other from an earlier slot by a tick
   pub rule : SlotRule (system t) (stateAt work′) (parentAt work′) (maskAt work′) 0 (countOf a)
   pub most : countOf a ≤ slotsIn work

@@ -1,23 +1,22 @@
 -- Only the search's bookkeeping, no part of its claim: what its parts ask of each other and promise.
 use mathlib.Core.Path.{_≡_}
-use mathlib.Core.Bool.{true, false}
+use mathlib.Core.Bool.{false}
 use mathlib.Core.List.{List, _∷_, _++_}
 use Prim.Native.Nat.{ℕ, suc, _+_, _*_, _≤_, _<_}
 use lib.ListN.{length, getD, take, drop}
 use Rattle.tasks.specs.Table.{tableFault}
 use Rattle.tasks.specs.State.{improper}
-use Rattle.tasks.specs.Tick.{after, missed}
+use Rattle.tasks.specs.Tick.{after}
 use Rattle.tasks.specs.declared.state.State.{State}
 use Rattle.tasks.specs.declared.table.Table.{Table}
 use Rattle.levels.specs.Verdict.{Answer, Verdict, Holds}
 use Rattle.levels.specs.Verdict.Answer.{Unsafe, Safe, NoRoom}
 use Rattle.levels.specs.Verdict as levels
 use Rattle.levels.specs.Slots.{SlotRule, Stored, Complete, countOf, masksOf}
-use Rattle.levels.specs.Levels.{trail, Before, Row, Hunting, Standing, Filling}
+use Rattle.levels.specs.Levels.{trail, Before, Hunting, Filling}
 use Rattle.search.specs.Claim.{slotsIn}
 use Rattle.search.specs.System.{step, system}
 use Rattle.search.specs.Slot.{stateAt, parentAt, maskAt, Indexed, Pushed}
-use Rattle.search.specs.Masks.{submask}
 use Rattle.search.specs.declared.hunt.HuntAnswer.{HuntAnswer}
 use Rattle.search.specs.declared.hunt.HuntAnswer.the-variants.{Miss, Clear}
 use Rattle.search.specs.declared.store.Attempt.{Attempt}
@@ -28,9 +27,6 @@ use Rattle.search.specs.declared.run.SearchAnswer.{SearchAnswer}
 use Rattle.search.specs.declared.run.SearchAnswer.the-variants as SearchAnswer
 
 -- ---- levels' invariants over the slots of a work space
-
-abbrev pub StandingIn : Table → List ℕ → ℕ → ℕ → ℕ → Type 0
-StandingIn t w lo hi d = Standing (system t) (stateAt w) (parentAt w) (maskAt w) 0 lo hi d
 
 abbrev pub FillingIn : Table → List ℕ → ℕ → ℕ → ℕ → ℕ → (ℕ → ℕ → Type 0) → Type 0
 FillingIn t w lo hi n d T = Filling (system t) (stateAt w) (parentAt w) (maskAt w) 0 lo hi n d T
@@ -49,15 +45,9 @@ pub record MissFrom (t : Table) (w : List ℕ) (lo hi i m : ℕ) : Type 0 where
   pub below : i < hi
   pub missed : step t (stateAt w i) m ≡ levels.Tick.Missed (after t (stateAt w i) m)
 
-abbrev pub Hunted : Table → List ℕ → ℕ → ℕ → HuntAnswer → Type 0
-Hunted t w lo hi (Miss i m) = MissFrom t w lo hi i m
-Hunted t w lo hi Clear = Hunting (system t) (stateAt w) lo hi
-
--- the submasks of free before m do not miss from s
-pub record CalmTo (t : Table) (s : State) (free m : ℕ) : Type 0 where
-  pub most : m ≤ 256
-  pub is : m < 256 → submask free m ≡ true
-  pub calm : (q : ℕ) → q < m → submask free q ≡ true → missed t (after t s q) ≡ false
+abbrev pub HuntIs : Table → List ℕ → ℕ → ℕ → HuntAnswer → Type 0
+HuntIs t w lo hi (Miss i m) = MissFrom t w lo hi i m
+HuntIs t w lo hi Clear = Hunting (system t) (stateAt w) lo hi
 
 -- ---- storing
 
@@ -102,22 +92,9 @@ pub record Overfull (t : Table) (w : List ℕ) (k : ℕ) : Type 0 where
   pub rule : SlotRule (system t) (stateAt w) (parentAt w) (maskAt w) 0 k
   pub stored : Stored (system t) (stateAt w) k
 
--- the masks of free before m, a row's pairs that are done
-abbrev pub DoneTo : ℕ → ℕ → ℕ → Type 0
-DoneTo free m = λ q. (q < m) × (submask free q ≡ true)
-
 -- slot i of a level under its masks, from the pairs T tried to U, whichever the level
 abbrev pub Carries : Table → List ℕ → List ℕ → ℕ → ℕ → ℕ → (ℕ → ℕ → Type 0) → (ℕ → ℕ → Type 0) → Type 0
 Carries t w w′ n n′ i T U = (lo hi d : ℕ) → lo ≤ i → i < hi → FillingIn t w lo hi n d T → FillingIn t w′ lo hi n′ d U
-
--- a row on the way: w′ and n′ are what has become of w and n, and m is the next mask
-pub record RowTo (t : Table) (w w′ heads′ : List ℕ) (s : State) (k n n′ i free m : ℕ) : Type 0 where
-  pub most : m ≤ 256
-  pub is : m < 256 → submask free m ≡ true
-  pub kept : Kept w w′ n n′
-  pub room : Room w′ heads′ n′ k
-  pub here : s ≡ stateAt w′ i
-  pub carries : Carries t w w′ n n′ i (Before i) (Row i (DoneTo free m))
 
 -- what a row asks: n slots, slot i among them with a proper state
 pub record RowReady (t : Table) (w heads : List ℕ) (k n i : ℕ) : Type 0 where
@@ -140,14 +117,6 @@ pub record RowFull (t : Table) (w w′ : List ℕ) (k n i : ℕ) : Type 0 where
 abbrev pub RowIs : Table → List ℕ → List ℕ → List ℕ → ℕ → ℕ → ℕ → Filled → Type 0
 RowIs t w w′ heads′ k n i (Filled.Upto n′) = RowDone t w w′ heads′ k n n′ i
 RowIs t w w′ heads′ k n i Filled.Full = RowFull t w w′ k n i
-
--- a level on the way: the rows from lo to i - 1 are done
-pub record LevelTo (t : Table) (w w′ heads′ : List ℕ) (k lo hi n i : ℕ) : Type 0 where
-  pub from : lo ≤ i
-  pub upto : i ≤ hi
-  pub kept : Kept w w′ hi n
-  pub room : Room w′ heads′ n k
-  pub filled : (d : ℕ) → FillingIn t w lo hi hi d (Before lo) → FillingIn t w′ lo hi n d (Before i)
 
 -- the level is done, or there was no room
 pub record LevelDone (t : Table) (w w′ heads′ : List ℕ) (k lo hi n : ℕ) : Type 0 where
@@ -196,13 +165,6 @@ pub record Spaces (t : Table) (w trace heads : List ℕ) (k : ℕ) : Type 0 wher
   pub long : k ≤ length trace
   pub buckets : 0 < length heads
   pub empty : (b : ℕ) → getD heads b 0 ≡ 0
-
--- the search stands at level d, in slots lo to hi - 1; w is what the work space held when its loop began
-pub record Stands (t : Table) (w w′ heads′ : List ℕ) (k lo hi d : ℕ) : Type 0 where
-  pub room : Room w′ heads′ hi k
-  pub standing : StandingIn t w′ lo hi d
-  pub later : drop (24 * hi) w′ ≡ drop (24 * hi) w
-  pub len : length w′ ≡ length w
 
 -- a verdict found: what Claim.antt's `Searched` says, but that links may still stand in the slots
 pub record Ran (t : Table) (w w′ trace trace′ : List ℕ) (k : ℕ) (a : Answer) : Type 0 where

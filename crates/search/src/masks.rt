@@ -1,10 +1,10 @@
 // The legal masks of a state, in increasing order.
 ghost use mathlib.Core.Path.{_≡_};
-ghost use Rattle.search.specs.Masks.{next, follows};
+ghost use Rattle.search.specs.Masks.{nextMask, follows};
 
 // The submask of free after m, and 0 after the last.
 fn next_mask(free: u8, m: u8) -> u8
-    ensures { λ r. ⌜ r ≡ next free m ⌝ }
+    ensures { λ r. ⌜ r ≡ nextMask free m ⌝ }
 {
     std::num::wrapping_sub_u8(m, free) & free
 }

@@ -10,14 +10,8 @@ ghost use Rattle.tasks.specs.Answers.{writingAnswer};
 use tasks::State;
 use tasks::Writing;
 use tasks::gap_in;
+use tasks::wide;
 use tasks::work_in;
-
-// The byte as a number that an index or a sum can hold.
-fn wide(x: u8) -> usize
-    ensures { λ r. ⌜ (r ≡ x) × (r < 256) ⌝ }
-{
-    x as usize
-}
 
 // The number of four bytes, low byte first.
 fn joined(x: u8, y: u8, z: u8, u: u8) -> u32

@@ -1,11 +1,11 @@
 -- The starred examples of document 01 ("Benchmark tables"), as entries of one list.
 use Prim.Native.Nat.{ℕ}
 use mathlib.Core.List.{List, [], _∷_, map}
-use lib.ListN.{length, getD}
+use lib.ListN.{length, take, getD}
 use Rattle.tasks.specs.Lists.{eight}
 use Rattle.tasks.specs.Number.{numberAt}
-use Rattle.tasks.specs.Replay.{replayed, replayNumber, replayTick}
-use Rattle.tasks.specs.Answers.{numberAnswer}
+use Rattle.tasks.specs.Replay.{replayed}
+use Rattle.tasks.specs.Answers.{numberAnswer, replayAnswer}
 use Rattle.tasks.specs.declared.table.Table.{Table}
 use Rattle.search.specs.Outcome.{verdictOf, outcomeAnswer}
 
@@ -34,7 +34,7 @@ table policy m tasks =
 pub data Question : Type 0 where
   -- the sheet number at the front of these bytes
   sheetNumber : List ℕ → Question
-  -- the replay of these masks: the refusal's number, and the tick of the miss
+  -- the replay of these masks: its kind, and the tick of the miss
   replay : Table → List ℕ → Question
   -- the verdict with K slots: kind, L, N, and under Unsafe the masks
   verdict : Table → ℕ → Question
@@ -42,7 +42,7 @@ pub data Question : Type 0 where
 -- what the definitions answer, by the paper's number and values
 abbrev pub answer : Question → List ℕ
 answer (sheetNumber bytes) = numberAnswer (numberAt bytes 0)
-answer (replay t masks) = replayNumber (replayed t masks .answer) ∷ replayTick (replayed t masks .answer) ∷ []
+answer (replay t masks) = take 2 (replayAnswer (replayed t masks))
 answer (verdict t K) = outcomeAnswer (verdictOf t K)
 
 -- a question with the paper's answer
@@ -61,15 +61,15 @@ starred =
     -- K = 3: No room 3
     ∷ record { asks = verdict (table 0 1 (task 1 1 2 ∷ task 2 4 4 ∷ [])) 3; says = 3 ∷ 0 ∷ 3 ∷ [] }
     -- 1/1: (2,2,2),(1,2,2): first miss at tick 2 under masks 3, 0
-    ∷ record { asks = replay (table 1 1 (task 2 2 2 ∷ task 1 2 2 ∷ [])) (3 ∷ 0 ∷ []); says = 0 ∷ 2 ∷ [] }
+    ∷ record { asks = replay (table 1 1 (task 2 2 2 ∷ task 1 2 2 ∷ [])) (3 ∷ 0 ∷ []); says = 2 ∷ 2 ∷ [] }
     -- 1/1: (1,1,1): Safe 1
     ∷ record { asks = verdict (table 1 1 (task 1 1 1 ∷ [])) 1; says = 1 ∷ 0 ∷ 1 ∷ [] }
     -- 1/1: (1,1,2),(1,1,2): Unsafe 1 1, mask 3, with K = 1
     ∷ record { asks = verdict (table 1 1 (task 1 1 2 ∷ task 1 1 2 ∷ [])) 1; says = 2 ∷ 1 ∷ 1 ∷ 3 ∷ [] }
     -- C8 01 is 200
-    ∷ record { asks = sheetNumber (0xC8 ∷ 0x01 ∷ []); says = 0 ∷ 200 ∷ 2 ∷ [] }
+    ∷ record { asks = sheetNumber (0xC8 ∷ 0x01 ∷ []); says = 1 ∷ 200 ∷ 2 ∷ [] }
     -- 80 00 gives 2
-    ∷ record { asks = sheetNumber (0x80 ∷ 0x00 ∷ []); says = 2 ∷ [] }
+    ∷ record { asks = sheetNumber (0x80 ∷ 0x00 ∷ []); says = 0 ∷ 2 ∷ [] }
     -- 80 and the end gives 1
-    ∷ record { asks = sheetNumber (0x80 ∷ []); says = 1 ∷ [] }
+    ∷ record { asks = sheetNumber (0x80 ∷ []); says = 0 ∷ 1 ∷ [] }
     ∷ []

@@ -8,10 +8,9 @@ use borrow.Author.Tests.{ltb-true, ltb-false, lt-ltb, le-ltb}
 use Rattle.tasks.specs.Lists.{pick}
 use Rattle.tasks.specs.Table.{tableFault}
 use Rattle.tasks.specs.State.{improper}
-use Rattle.tasks.specs.Tick.{illegal, after, missed, refusal, tickNumber, answered, ticked}
+use Rattle.tasks.specs.Tick.{illegal, after, missed, refusal, answered, ticked}
 use Rattle.tasks.specs.declared.state.State.{State}
 use Rattle.tasks.specs.declared.table.Table.{Table}
-use Rattle.tasks.specs.declared.tick.TickAnswer.{TickAnswer}
 use Rattle.tasks.specs.declared.tick.TickAnswer.the-variants.{Next, Missed, Refused}
 use Rattle.tasks.proofs.Bools.{by-bool}
 use Rattle.tasks.proofs.Picks.{pick-yes, pick-no}
@@ -33,19 +32,6 @@ module _ (t : Table) (s : State) (mask : ℕ) where
       refusal t s mask ≤ 0 → missed t (after t s mask) ≡ false → answered Next (after t s mask) ≡ ticked t s mask
   unfolding ticked
   ticked-next h e = pick-no _ (le-ltb _ _ h) (pick-no _ e refl)
-
-  -- the number of each answer is that of its refusal, 0 where there is none
-  pub number-refused : {a : TickAnswer} → a ≡ Refused (refusal t s mask) → tickNumber a ≡ refusal t s mask
-  unfolding tickNumber
-  number-refused e = rw e
-
-  pub number-missed : {a : TickAnswer} → a ≡ Missed → refusal t s mask ≤ 0 → tickNumber a ≡ refusal t s mask
-  unfolding tickNumber
-  number-missed e h = rw e (omega arith)
-
-  pub number-next : {a : TickAnswer} → a ≡ Next → refusal t s mask ≤ 0 → tickNumber a ≡ refusal t s mask
-  unfolding tickNumber
-  number-next e h = rw e (omega arith)
 
   -- a tick is not refused exactly with a valid table, a proper state and a legal mask
   pub refusal-none : tableFault t ≡ 0 → improper t s ≡ false → illegal t s mask ≡ false → refusal t s mask ≡ 0

@@ -1,13 +1,9 @@
 -- A state read from its words. Assumes nothing.
 use Prim.Native.Nat.{ℕ, _/_, _%_, _<_}
 use mathlib.Core.Path.{_≡_}
-use mathlib.Core.Bool.{_&&_}
 use mathlib.Core.List.{List}
 use lib.ListN.{getD}
-use lib.Dec.{ltb}
-use lib.IntN.{pos}
-use lib.Signed.{ltZ}
-use Rattle.tasks.specs.State.{slack, late}
+use Rattle.tasks.specs.State.{lateJob, late}
 use Rattle.tasks.specs.Words.{stateOf}
 use Rattle.tasks.specs.declared.table.Table.{Table}
 use Rattle.tasks.proofs.Fill.{eight-at}
@@ -25,8 +21,6 @@ module _ (v : List ℕ) (i : ℕ) (h : i < 8) where
 
   pub late-word :
       (t : Table)
-      → ltb 0 (getD v i 0 % 256)
-      && ltZ (slack (getD (t .deadline) i 0) (getD (t .gap) i 0) (getD v i 0 / 256) (getD v i 0 % 256)) (pos 0)
-      ≡ late t (stateOf v) i
+      → lateJob (getD (t .deadline) i 0) (getD (t .gap) i 0) (getD v i 0 / 256) (getD v i 0 % 256) ≡ late t (stateOf v) i
   unfolding late
   late-word t = rw (work-word, gap-word)

@@ -5,10 +5,10 @@ use mathlib.Core.Bool.{true, false, _&&_}
 use native.Mathlib.Omega.{arith}
 use lib.Dec.{ltb}
 use lib.ListN.{getD}
-use lib.IntN.{negsuc}
+use lib.IntN.{ℤ, negsuc}
 use borrow.Author.Tests.{ltb-true, ltb-false, lt-ltb}
 use Rattle.tasks.specs.Table.{tableFault}
-use Rattle.tasks.specs.State.{slackAt, ready, late, improper}
+use Rattle.tasks.specs.State.{slack, ready, late, improper}
 use Rattle.tasks.specs.Tick.{bit, released, runs, after}
 use Rattle.tasks.specs.declared.state.State.{State}
 use Rattle.tasks.specs.declared.table.Table.{Table}
@@ -17,6 +17,10 @@ use Rattle.tasks.proofs.Signed.{sub-lt, slack-sub, slack-late}
 use Rattle.tasks.proofs.Tables.{ordered}
 use Rattle.tasks.proofs.After.{work-on, work-off, gap-on, gap-off, work-ran, work-waited, gap-after}
 use Rattle.tasks.proofs.Proper.{proper-task}
+
+-- the slack of task i's job
+abbrev pub slackAt : Table → State → ℕ → ℤ
+slackAt t s i = slack (getD (t .deadline) i 0) (getD (t .gap) i 0) (getD (s .p) i 0) (getD (s .c) i 0)
 
 -- ---- the slack in natural numbers
 

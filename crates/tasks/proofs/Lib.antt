@@ -13,6 +13,7 @@ pub mod Fields
 pub mod Sheets
 pub mod RoundTrip
 pub mod Again
+pub mod Front
 pub mod Order
 pub mod Signed
 pub mod Legal
@@ -24,5 +25,7 @@ pub mod Proper
 pub mod Late
 pub mod InWords
 pub mod More
+pub mod Free
+pub mod NoMiss
 pub mod Answered
 pub mod Played

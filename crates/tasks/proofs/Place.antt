@@ -66,9 +66,9 @@ module _ (t : Table) (s : State) where
   unfolding shiftedAt
   shifted-range i b = by-bool (ltb (t .policy) 2) (λ e. rw e (omega arith)) (λ e. rw e (omega (arith, b .deadline, b .gap, b .p)))
 
-  before-packed : (j i : ℕ) → j < 8 → i < 8 → Bytes t s j → Bytes t s i → ltb (shiftedAt t s j * 8 + j) (shiftedAt t s i * 8 + i) ≡ before t s j i
+  before-place : (j i : ℕ) → j < 8 → i < 8 → Bytes t s j → Bytes t s i → ltb (shiftedAt t s j * 8 + j) (shiftedAt t s i * 8 + i) ≡ before t s j i
   unfolding before
-  before-packed j i h k a b =
+  before-place j i h k a b =
       pack-less 8 (shiftedAt t s j) (shiftedAt t s i) j i h k ∙ rw (key-less j i a b, key-less i j b a)
 
   -- ---- the places
@@ -93,7 +93,7 @@ module _ (t : Table) (s : State) where
       (λ y.
       by-bool (keeps t s j)
       (λ z. rw (place-kept j y z, y, z) (lt-ltb 0 (shiftedAt t s i * 8 + i) (omega (arith, shifted-range i b .0))))
-      (λ z. rw (place-free j y z, y, z) (before-packed j i h k a b)))
+      (λ z. rw (place-free j y z, y, z) (before-place j i h k a b)))
       (λ y. rw (place-none j y, y) (le-ltb 65535 (shiftedAt t s i * 8 + i) (omega (arith, shifted-range i b .1)))))
 
   -- ---- the choice

@@ -12,7 +12,7 @@ use borrow.Author.Tests.{lt-ltb, le-ltb, ltb-true, ltb-false}
 use Rattle.tasks.specs.Lists.{eight, pick}
 use Rattle.tasks.specs.Table.{breaks, tableFault}
 use Rattle.tasks.specs.Number.{numberBytes, numberAt}
-use Rattle.tasks.specs.Sheet.{emptyTable, refusedWith, acceptedAs, fieldAt, andThen, taskOf, taskThen, taskAt, withTask, afterTask, tasksFrom, fromTasks, fromCount, fromProcessors, fromPolicy, sheetOf, taskBytes, tasksBytes, sheetBytes}
+use Rattle.tasks.specs.Sheet.{emptyTable, refusedWith, acceptedAs, fieldAt, andThen, taskOf, taskThen, taskAt, withTask, afterTask, tasksFrom, fromTasks, fromPolicy, sheetOf, taskBytes, tasksBytes, sheetBytes}
 use Rattle.tasks.specs.declared.number.Number.{Number}
 use Rattle.tasks.specs.declared.number.Number.the-variants.{Value, Refused}
 use Rattle.tasks.specs.declared.table.Table.{Table}
@@ -52,7 +52,7 @@ pub record TaskStands (s : List ℕ) (at : ℕ) (task : Task) (next : ℕ) : Typ
 no-task : {X : Type 0} {r next : ℕ} {task : Task} → TaskRead.Refused r ≡ TaskRead.Read task next → X
 no-task e = absurd (let z : _≡_ {A = ℕ} 0 1 = cc in omega arith)
 
-task-of : (work deadline gap n : ℕ) {task : Task} {next : ℕ} → taskOf work deadline gap n ≡ TaskRead.Read task next
+pub task-of : (work deadline gap n : ℕ) {task : Task} {next : ℕ} → taskOf work deadline gap n ≡ TaskRead.Read task next
     → FitTask work deadline gap × (work ≡ task .work) × (deadline ≡ task .deadline) × (gap ≡ task .gap) × (n ≡ next)
 unfolding taskOf
 task-of work deadline gap n {task} {next} e =
@@ -68,7 +68,7 @@ pub record TaskPassed (x : Number) (rest : ℕ → ℕ → TaskRead) (task : Tas
   pub is : x ≡ Value v at
   pub then : rest v at ≡ TaskRead.Read task next
 
-task-passed : (x : Number) (rest : ℕ → ℕ → TaskRead) (task : Task) (next : ℕ) → taskThen x rest ≡ TaskRead.Read task next → TaskPassed x rest task next
+pub task-passed : (x : Number) (rest : ℕ → ℕ → TaskRead) (task : Task) (next : ℕ) → taskThen x rest ≡ TaskRead.Read task next → TaskPassed x rest task next
 task-passed (Value v at) rest task next e = record { v = v; at = at; is = refl; then = e }
 task-passed (Refused r) rest task next e = no-task e
 
@@ -267,12 +267,12 @@ whole s t a policy b m c n d x p y q z r w tasks =
 
 module _ (s : List ℕ) (byte : (i : ℕ) → getD s i 0 < 256) where
   pub accepted : (t : Table) → sheetOf s ≡ acceptedAs t → Accepted s t
-  unfolding sheetOf fromPolicy fromProcessors fromCount fromTasks
+  unfolding sheetOf fromPolicy fromTasks
   accepted t e =
       let a = passed (fieldAt s 0 3 3 3) (λ fields. fromPolicy s) t e in
-      let b = passed (fieldAt s (a .next) 0 3 4) (fromProcessors s) t (a .then) in
-      let c = passed (fieldAt s (b .next) 1 8 5) (fromCount s (b .v)) t (b .then) in
-      let d = passed (fieldAt s (c .next) 1 8 6) (fromTasks s (b .v) (c .v)) t (c .then) in
+      let b = passed (fieldAt s (a .next) 0 3 4) (λ policy b. andThen (fieldAt s b 1 8 5) (λ m c. andThen (fieldAt s c 1 8 6) (λ n d. fromTasks s policy m n d))) t (a .then) in
+      let c = passed (fieldAt s (b .next) 1 8 5) (λ m c. andThen (fieldAt s c 1 8 6) (λ n d. fromTasks s (b .v) m n d)) t (b .then) in
+      let d = passed (fieldAt s (c .next) 1 8 6) (λ n d. fromTasks s (b .v) (c .v) n d) t (c .then) in
       let A = field-read s 0 3 3 3 {v = a .v} {next = a .next} (a .is) in
       let B = field-read s (a .next) 0 3 4 {v = b .v} {next = b .next} (b .is) in
       let C = field-read s (b .next) 1 8 5 {v = c .v} {next = c .next} (c .is) in
@@ -420,7 +420,7 @@ field-stands s at low high r x rest l h b e =
 
 -- a valid table written and read is the same table
 pub write-read : (t : Table) → Eight t → tableFault t ≡ 0 → sheetOf (sheetBytes t) ≡ acceptedAs t
-unfolding sheetOf fromPolicy fromProcessors fromCount fromTasks sheetBytes firsts
+unfolding sheetOf fromPolicy fromTasks sheetBytes firsts
 write-read t e f =
     let v = valid t f in
     let W = tasksBytes t (t .n) 0 in

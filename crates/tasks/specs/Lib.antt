@@ -6,6 +6,8 @@ pub mod Answers
 pub mod State
 pub mod Tick
 pub mod Places
+pub mod Masks
 pub mod Words
+pub mod Tight
 pub mod Ticker
 pub mod Replay

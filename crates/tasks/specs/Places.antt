@@ -15,15 +15,15 @@ abbrev pub shifted : Bool → ℕ → ℕ → ℕ → ℕ
 shifted fixed deadline gap p = pick fixed 256 (256 + deadline + p - gap)
 
 -- 0 for a job that keeps its processor, 65535 for no job, else the key and below it the task's number
-abbrev pub packed : Bool → Bool → ℕ → ℕ → ℕ
-packed has stays key i = pick has (pick stays 0 (key * 8 + i)) 65535
+abbrev pub placeOf : Bool → Bool → ℕ → ℕ → ℕ
+placeOf has stays key i = pick has (pick stays 0 (key * 8 + i)) 65535
 
 unfoldable pub shiftedAt : Table → State → ℕ → ℕ
 shiftedAt t s i = shifted (ltb (t .policy) 2) (getD (t .deadline) i 0) (getD (t .gap) i 0) (getD (s .p) i 0)
 
 -- the place of task i
 unfoldable pub place : Table → State → ℕ → ℕ
-place t s i = packed (ready s i) (keeps t s i) (shiftedAt t s i) i
+place t s i = placeOf (ready s i) (keeps t s i) (shiftedAt t s i) i
 
 -- the place at k is below x
 unfoldable pub under : List ℕ → ℕ → ℕ → Bool
@@ -33,6 +33,10 @@ under places x k = ltb (getD places k 0) x
 unfoldable pub rank : List ℕ → ℕ → ℕ → ℕ
 rank places n i = count n (under places (getD places i 0))
 
+-- a task runs, by its place and its rank: it has a job, which keeps its processor or has fewer than m before it
+abbrev pub runsBy : ℕ → ℕ → ℕ → Bool
+runsBy at below m = ltb at 65535 && (eqb at 0 || ltb below m)
+
 -- task i runs, by its place and its rank among all
 unfoldable pub taken : List ℕ → ℕ → ℕ → Bool
-taken places m i = ltb (getD places i 0) 65535 && (eqb (getD places i 0) 0 || ltb (rank places 8 i) m)
+taken places m i = runsBy (getD places i 0) (rank places 8 i) m

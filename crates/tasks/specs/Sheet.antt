@@ -95,18 +95,15 @@ tasksFrom zero i t s at = pick (ltb at (length s)) (refusedWith 8) (acceptedAs t
 tasksFrom (suc k) i t s at =
     afterTask (taskAt s at) (λ task next. tasksFrom k (i + 1) (withTask t i task) s next)
 
--- the sheet from each place on
+-- n tasks, and then the end
 unfoldable pub fromTasks : List ℕ → ℕ → ℕ → ℕ → ℕ → Sheet
 fromTasks s policy m n at = tasksFrom n 0 (emptyTable policy m n) s at
 
-unfoldable pub fromCount : List ℕ → ℕ → ℕ → ℕ → Sheet
-fromCount s policy m at = andThen (fieldAt s at 1 8 6) (fromTasks s policy m)
-
-unfoldable pub fromProcessors : List ℕ → ℕ → ℕ → Sheet
-fromProcessors s policy at = andThen (fieldAt s at 1 8 5) (fromCount s policy)
-
+-- policy, m and n, and then the tasks
 unfoldable pub fromPolicy : List ℕ → ℕ → Sheet
-fromPolicy s at = andThen (fieldAt s at 0 3 4) (fromProcessors s)
+fromPolicy s at =
+    andThen (fieldAt s at 0 3 4)
+    (λ policy a. andThen (fieldAt s a 1 8 5) (λ m b. andThen (fieldAt s b 1 8 6) (λ n next. fromTasks s policy m n next)))
 
 -- what reading a sheet answers
 unfoldable pub sheetOf : List ℕ → Sheet
@@ -133,9 +130,9 @@ unfoldable pub writeRefusal : Table → List ℕ → ℕ
 writeRefusal t out =
     pick (ltb 0 (tableFault t)) (tableFault t) (pick (ltb (length out) (length (sheetBytes t))) 12 0)
 
--- what the writer answers: the refusal, or 0 and the sheet's length
+-- what the writer answers: the refusal, or the sheet's length
 unfoldable pub writeAnswer : Table → List ℕ → List ℕ
-writeAnswer t out = pick (ltb 0 (writeRefusal t out)) (writeRefusal t out ∷ []) (0 ∷ length (sheetBytes t) ∷ [])
+writeAnswer t out = pick (ltb 0 (writeRefusal t out)) (0 ∷ writeRefusal t out ∷ []) (1 ∷ length (sheetBytes t) ∷ [])
 
 -- the output afterwards: the sheet at its front, later bytes as they were; a refusal leaves every byte
 unfoldable pub writeOut : Table → List ℕ → List ℕ
@@ -146,7 +143,7 @@ writeOut t out = pick (ltb 0 (writeRefusal t out)) out (sheetBytes t ++ drop (le
 -- what is answered where the reading is accepted, or its refusal
 abbrev pub ifRead : Reading → List ℕ → List ℕ
 ifRead Reading.Accepted w = w
-ifRead (Reading.Refused r) w = r ∷ []
+ifRead (Reading.Refused r) w = 0 ∷ r ∷ []
 
 abbrev pub outIfRead : Reading → List ℕ → List ℕ → List ℕ
 outIfRead Reading.Accepted new old = new
@@ -154,7 +151,7 @@ outIfRead (Reading.Refused r) new old = old
 
 -- an accepted sheet read and written has the same bytes: the answer, and the output afterwards
 unfoldable pub copyAnswer : List ℕ → List ℕ → List ℕ
-copyAnswer s out = ifRead (sheetOf s .answer) (pick (ltb (length out) (length s)) (12 ∷ []) (0 ∷ length s ∷ []))
+copyAnswer s out = ifRead (sheetOf s .answer) (pick (ltb (length out) (length s)) (0 ∷ 12 ∷ []) (1 ∷ length s ∷ []))
 
 unfoldable pub copyOut : List ℕ → List ℕ → List ℕ
 copyOut s out = outIfRead (sheetOf s .answer) (pick (ltb (length out) (length s)) out (s ++ drop (length s) out)) out

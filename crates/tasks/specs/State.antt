@@ -27,10 +27,6 @@ slack deadline gap p c = timeLeft deadline gap p -ℤ pos c
 abbrev pub timeLeftAt : Table → State → ℕ → ℤ
 timeLeftAt t s i = timeLeft (getD (t .deadline) i 0) (getD (t .gap) i 0) (getD (s .p) i 0)
 
--- the slack of task i's job
-abbrev pub slackAt : Table → State → ℕ → ℤ
-slackAt t s i = slack (getD (t .deadline) i 0) (getD (t .gap) i 0) (getD (s .p) i 0) (getD (s .c) i 0)
-
 -- ---- what a job is
 
 -- task i has a job with work left
@@ -49,9 +45,13 @@ notPreempted t = eqb (t .policy) 0 || eqb (t .policy) 2
 unfoldable pub keeps : Table → State → ℕ → Bool
 keeps t s i = notPreempted t && started t s i
 
+-- a job with c work left is late: its slack is below 0
+abbrev pub lateJob : ℕ → ℕ → ℕ → ℕ → Bool
+lateJob deadline gap p c = ltb 0 c && ltZ (slack deadline gap p c) (pos 0)
+
 -- task i's job is late
 unfoldable pub late : Table → State → ℕ → Bool
-late t s i = ready s i && ltZ (slackAt t s i) (pos 0)
+late t s i = lateJob (getD (t .deadline) i 0) (getD (t .gap) i 0) (getD (s .p) i 0) (getD (s .c) i 0)
 
 -- ---- proper
 

@@ -100,12 +100,6 @@ refusal t s mask =
     (pick (improper t s) 13
     (pick (illegal t s mask) 11 0))
 
--- the refusal number of an answer, 0 for the two that are none
-unfoldable pub tickNumber : TickAnswer → ℕ
-tickNumber Next = 0
-tickNumber Missed = 0
-tickNumber (Refused r) = r
-
 -- the answer with the state beside it
 abbrev pub answered : TickAnswer → State → Ticked
 answered a s = record { answer = a; state = s }

@@ -1,4 +1,5 @@
 // Sheet numbers: groups of seven bits, low group first, the top bit of a byte set when another follows.
+use crate::widths::wide;
 ghost use mathlib.Core.Path.{_≡_};
 ghost use Prim.Native.Nat.{_+_, _≤_, _<_};
 ghost use lib.ListN.{length, set};
@@ -10,13 +11,6 @@ ghost use Rattle.tasks.specs.Number.{numberBytes, numberAt};
 pub enum Number {
     Value(usize, usize),
     Refused(u8),
-}
-
-// A byte as a number that an index or a sum can hold.
-pub(crate) fn wide(x: u8) -> usize
-    ensures { λ r. ⌜ (r ≡ x) × (r < 256) ⌝ }
-{
-    x as usize
 }
 
 // The number at a place: one or two bytes.

@@ -3,16 +3,10 @@ ghost use mathlib.Core.Path.{_≡_};
 ghost use Prim.Native.Nat.{_+_, _<_};
 ghost use Rattle.tasks.specs.Lists.{eight};
 ghost use Rattle.tasks.specs.Tick.{chosen};
-ghost use Rattle.tasks.specs.Places.{shifted, packed, place, rank};
+ghost use Rattle.tasks.specs.Places.{shifted, placeOf, place, rank, runsBy};
 use crate::state::State;
 use crate::table::Table;
-
-// The byte as a wider number.
-pub(crate) fn wide(x: u8) -> u16
-    ensures { λ r. ⌜ (r ≡ x) × (r < 256) ⌝ }
-{
-    x as u16
-}
+use crate::widths::wide16;
 
 // 256 more than the key.
 pub(crate) fn shifted(fixed: bool, deadline: u8, gap: u8, p: u8) -> u16
@@ -21,13 +15,13 @@ pub(crate) fn shifted(fixed: bool, deadline: u8, gap: u8, p: u8) -> u16
     if fixed {
         return 256;
     }
-    256 + wide(deadline) + wide(p) - wide(gap)
+    256 + wide16(deadline) + wide16(p) - wide16(gap)
 }
 
 // The place of task i: 0 where its job keeps its processor, 65535 where it has none.
-fn packed(busy: bool, stays: bool, key: u16, i: usize) -> u16
+fn place_of(busy: bool, stays: bool, key: u16, i: usize) -> u16
     requires { ⌜ (key < 1024) × (i < 8) ⌝ }
-    ensures { λ r. ⌜ r ≡ packed busy stays key i ⌝ }
+    ensures { λ r. ⌜ r ≡ placeOf busy stays key i ⌝ }
 {
     if busy {
         if stays {
@@ -67,6 +61,13 @@ pub(crate) fn ranks(places: [u16; 8]) -> [u16; 8]
     ranks
 }
 
+// Whether a task runs, by its place and its rank.
+pub(crate) fn runs_by(place: u16, rank: u16, m: u16) -> bool
+    ensures { λ r. ⌜ r ≡ runsBy place rank m ⌝ }
+{
+    (place < 65535) & ((place == 0) | (rank < m))
+}
+
 impl State {
     // The place of task i.
     fn place(self, t: Table, i: usize) -> u16
@@ -76,7 +77,7 @@ impl State {
         let policy = t.policy;
         let c = self.c[i];
         let key = shifted(policy < 2, t.deadline[i], t.gap[i], self.p[i]);
-        packed(0 < c, self.keeps(t, i), key, i)
+        place_of(0 < c, self.keeps(t, i), key, i)
     }
 
     pub(crate) fn places(self, t: Table) -> [u16; 8]
@@ -92,17 +93,16 @@ impl State {
     }
 
     // Steps 2 and 3 of a tick: which tasks run.
-    pub fn choose(self, t: Table) -> [bool; 8]
+    pub(crate) fn choose(self, t: Table) -> [bool; 8]
         ensures { λ r. ⌜ r ≡ chosen t self ⌝ }
     {
         let places = self.places(t);
         let ranks = ranks(places);
-        let m = wide(t.m);
+        let m = wide16(t.m);
         let mut run = [false; 8];
         let mut i: usize = 0;
         while i < 8 {
-            let x = places[i];
-            run[i] = (x < 65535) & ((x == 0) | (ranks[i] < m));
+            run[i] = runs_by(places[i], ranks[i], m);
             i += 1;
         }
         run

@@ -2,7 +2,8 @@
 ghost use mathlib.Core.Path.{_≡_};
 ghost use Prim.Native.Nat.{_≤_};
 ghost use Rattle.tasks.specs.State.{start};
-ghost use Rattle.tasks.specs.Replay.{played, replayed, replayRefusal, replayNumber, replayTick};
+ghost use Rattle.tasks.specs.Answers.{replayAnswer};
+ghost use Rattle.tasks.specs.Replay.{played, replayed, replayTick};
 use crate::state::State;
 use crate::table::Table;
 use crate::tick::TickAnswer;
@@ -62,7 +63,7 @@ fn play(t: Table, masks: &[u8]) -> Replayed
 
 // The replay of a list, for any table: a bad table is refused before the first tick, with the start state.
 pub fn replay(t: Table, masks: &[u8]) -> Replayed
-    ensures { λ r. do ⌜ (r ≡ replayed t (now (masks .entry))) × (replayTick (r .answer) ≤ (← ⟦masks.len()⟧ .entry)) × (replayNumber (r .answer) ≡ replayRefusal t (now (masks .entry))) ⌝ }
+    ensures { λ r. do ⌜ (replayAnswer r ≡ replayAnswer (replayed t (now (masks .entry)))) × (r .state ≡ replayed t (now (masks .entry)) .state) × (replayTick (r .answer) ≤ (← ⟦masks.len()⟧ .entry)) ⌝ }
 {
     let fault = t.fault();
     if 0 < fault {

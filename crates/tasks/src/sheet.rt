@@ -6,7 +6,7 @@ use crate::table::breaks;
 ghost use mathlib.Core.Path.{_≡_};
 ghost use Prim.Native.Nat.{_≤_, _<_};
 ghost use Rattle.tasks.specs.Answers.{sheetAnswer};
-ghost use Rattle.tasks.specs.Sheet.{fieldAt, taskOf, taskAt, withTask, emptyTable, refusedWith, fromTasks, fromCount, fromProcessors, fromPolicy, sheetOf};
+ghost use Rattle.tasks.specs.Sheet.{fieldAt, taskOf, taskAt, withTask, emptyTable, refusedWith, fromTasks, fromPolicy, sheetOf};
 
 // What reading a sheet answers.
 pub enum Reading {
@@ -143,30 +143,19 @@ fn read_tasks(s: &[u8], from: usize, policy: u8, m: u8, n: u8) -> Sheet
     }
 }
 
-fn read_count(s: &[u8], at: usize, policy: u8, m: u8) -> Sheet
-    ensures { λ r. ⌜ r ≡ fromCount (now (s .entry)) policy m at ⌝ }
-{
-    match read_field(s, at, 1, 8, 6) {
-        Number::Refused(r) => refused(r),
-        Number::Value(n, next) => read_tasks(s, next, policy, m, n as u8),
-    }
-}
-
-fn read_processors(s: &[u8], at: usize, policy: u8) -> Sheet
-    ensures { λ r. ⌜ r ≡ fromProcessors (now (s .entry)) policy at ⌝ }
-{
-    match read_field(s, at, 1, 8, 5) {
-        Number::Refused(r) => refused(r),
-        Number::Value(m, next) => read_count(s, next, policy, m as u8),
-    }
-}
-
-fn read_policy(s: &[u8], at: usize) -> Sheet
+// Policy, m and n, and then the tasks.
+fn read_header(s: &[u8], at: usize) -> Sheet
     ensures { λ r. ⌜ r ≡ fromPolicy (now (s .entry)) at ⌝ }
 {
     match read_field(s, at, 0, 3, 4) {
         Number::Refused(r) => refused(r),
-        Number::Value(policy, next) => read_processors(s, next, policy as u8),
+        Number::Value(policy, a) => match read_field(s, a, 1, 8, 5) {
+            Number::Refused(r) => refused(r),
+            Number::Value(m, b) => match read_field(s, b, 1, 8, 6) {
+                Number::Refused(r) => refused(r),
+                Number::Value(n, next) => { read_tasks(s, next, policy as u8, m as u8, n as u8) }
+            },
+        },
     }
 }
 
@@ -176,6 +165,6 @@ pub fn read_sheet(s: &[u8]) -> Sheet
 {
     match read_field(s, 0, 3, 3, 3) {
         Number::Refused(r) => refused(r),
-        Number::Value(_, next) => read_policy(s, next),
+        Number::Value(_, next) => read_header(s, next),
     }
 }

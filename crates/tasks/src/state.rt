@@ -1,10 +1,11 @@
 // The state by value: its release and run, the miss, and when it is proper.
 ghost use mathlib.Core.Path.{_≡_};
 ghost use Prim.Native.Nat.{_-_, _<_};
-ghost use Rattle.tasks.specs.Lists.{pick, count, any};
-ghost use Rattle.tasks.specs.State.{start, timeLeft, slack, started, keeps, late, improperAt, improper};
+ghost use Rattle.tasks.specs.Lists.{count, any};
+ghost use Rattle.tasks.specs.State.{start, timeLeft, slack, started, keeps, lateJob, late, improperAt, improper};
 ghost use Rattle.tasks.specs.Tick.{bit, released, ran, missed, illegalAt, illegal};
 use crate::table::Table;
+use crate::widths::either;
 
 // For each of eight tasks: the work left c, and the ticks p until it may be released again.
 pub struct State {
@@ -18,13 +19,6 @@ fn has_bit(mask: u8, i: usize) -> bool
     ensures { λ r. ⌜ r ≡ bit mask i ⌝ }
 {
     (mask >> i) % 2 == 1
-}
-
-// x where b holds, else y.
-fn either(b: bool, x: u8, y: u8) -> u8
-    ensures { λ r. ⌜ r ≡ pick b x y ⌝ }
-{
-    if b { x } else { y }
 }
 
 // One less, and 0 for 0.
@@ -48,6 +42,13 @@ pub(crate) fn slack_of(deadline: u8, gap: u8, p: u8, c: u8) -> i16
     time_left(deadline, gap, p) - (c as i16)
 }
 
+// Whether a job with c work left is late.
+pub(crate) fn late_job(deadline: u8, gap: u8, p: u8, c: u8) -> bool
+    ensures { λ r. ⌜ r ≡ lateJob deadline gap p c ⌝ }
+{
+    (0 < c) & (slack_of(deadline, gap, p, c) < 0)
+}
+
 impl State {
     // The start state, all 0.
     pub fn start() -> State
@@ -60,7 +61,7 @@ impl State {
     }
 
     // Step 1 of a tick: each task whose bit is set gets c = C and p = P.
-    pub fn release(self, t: Table, mask: u8) -> State
+    pub(crate) fn release(self, t: Table, mask: u8) -> State
         ensures { λ r. ⌜ r ≡ released t self mask ⌝ }
     {
         let mut c = [0u8; 8];
@@ -76,7 +77,7 @@ impl State {
     }
 
     // Step 4 of a tick, where the tasks of `run` run: their c falls by 1, and every p above 0 does.
-    pub fn run(self, run: [bool; 8]) -> State
+    pub(crate) fn run(self, run: [bool; 8]) -> State
         ensures { λ r. ⌜ r ≡ ran self run ⌝ }
     {
         let mut c = [0u8; 8];
@@ -95,12 +96,11 @@ impl State {
         requires { ⌜ i < 8 ⌝ }
         ensures { λ r. ⌜ r ≡ late t self i ⌝ }
     {
-        let c = self.c[i];
-        (0 < c) & (slack_of(t.deadline[i], t.gap[i], self.p[i], c) < 0)
+        late_job(t.deadline[i], t.gap[i], self.p[i], self.c[i])
     }
 
     // Step 5 of a tick: whether some job is late.
-    pub fn missed(self, t: Table) -> bool
+    pub(crate) fn missed(self, t: Table) -> bool
         ensures { λ r. ⌜ r ≡ missed t self ⌝ }
     {
         let mut found = false;
@@ -170,7 +170,7 @@ impl State {
     }
 
     // Whether the state is not proper.
-    pub fn improper(self, t: Table) -> bool
+    pub(crate) fn improper(self, t: Table) -> bool
         ensures { λ r. ⌜ r ≡ improper t self ⌝ }
     {
         self.any_improper(t) | (t.m < self.count_kept(t))
@@ -187,7 +187,7 @@ impl State {
     }
 
     // Whether the mask is not legal.
-    pub fn illegal(self, t: Table, mask: u8) -> bool
+    pub(crate) fn illegal(self, t: Table, mask: u8) -> bool
         ensures { λ r. ⌜ r ≡ illegal t self mask ⌝ }
     {
         let mut found = false;

@@ -1,5 +1,5 @@
 // The task table by value, and its faults.
-use crate::number::wide;
+use crate::widths::wide;
 ghost use mathlib.Core.Path.{_≡_};
 ghost use Prim.Native.Nat.{_<_};
 ghost use Rattle.tasks.specs.Lists.{any};
@@ -62,13 +62,15 @@ impl Table {
         ensures { λ r. ⌜ r ≡ tableFault self ⌝ }
     {
         let policy = self.policy;
+        let m = outside(self.m);
+        let n = outside(self.n);
         if 3 < policy {
             return 4;
         }
-        if outside(self.m) {
+        if m {
             return 5;
         }
-        if outside(self.n) {
+        if n {
             return 6;
         }
         if self.any_fault() {

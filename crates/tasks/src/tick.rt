@@ -1,6 +1,7 @@
 // One tick: its refusals, and the state after it.
 ghost use mathlib.Core.Path.{_≡_};
-ghost use Rattle.tasks.specs.Tick.{after, refusal, tickNumber, answered, ticked};
+ghost use Rattle.tasks.specs.Answers.{tickAnswer};
+ghost use Rattle.tasks.specs.Tick.{after, refusal, answered, ticked};
 use crate::state::State;
 use crate::table::Table;
 
@@ -24,14 +25,13 @@ fn answered(answer: TickAnswer, state: State) -> Ticked
 }
 
 impl State {
-    // Steps 1 to 4 of a tick, for any table, state and mask, by the table made ready.
-    pub fn advance(self, t: Table, mask: u8) -> State
+    // Steps 1 to 4 of a tick, for any table, state and mask: release, choose, run.
+    pub(crate) fn advance(self, t: Table, mask: u8) -> State
         ensures { λ r. ⌜ r ≡ after t self mask ⌝ }
     {
-        let ticker = t.ticker();
-        let state = ticker.prepare(self.words());
-        let words = ticker.after(state, mask);
-        State::of_words(words)
+        let released = self.release(t, mask);
+        let run = released.choose(t);
+        released.run(run)
     }
 
     // Why a tick is refused: the first of 4 to 7, 13 and 11 that applies, and 0 where none does.
@@ -53,7 +53,7 @@ impl State {
 
     // One tick: a refusal with the state given, or Missed or Next with the state after it.
     pub fn tick(self, t: Table, mask: u8) -> Ticked
-        ensures { λ r. ⌜ (r ≡ ticked t self mask) × (tickNumber (r .answer) ≡ refusal t self mask) ⌝ }
+        ensures { λ r. ⌜ (tickAnswer r ≡ tickAnswer (ticked t self mask)) × (r .state ≡ ticked t self mask .state) ⌝ }
     {
         let why = self.refusal(t, mask);
         if 0 < why {

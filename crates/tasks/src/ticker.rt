@@ -8,10 +8,12 @@ ghost use Rattle.tasks.specs.State.{notPreempted};
 ghost use Rattle.tasks.specs.Places.{shifted};
 ghost use Rattle.tasks.specs.Ticker.{tickerOf, oldPlace, oldWord, preparedBy, selected, lowered, tickedBy, freeBy};
 use crate::places::ranks;
+use crate::places::runs_by;
 use crate::places::shifted;
-use crate::places::wide;
 use crate::state::State;
 use crate::table::Table;
+use crate::widths::either16;
+use crate::widths::wide16;
 
 // A table made ready for many ticks. For each task: its bit in a mask; the work below which its job keeps its processor; its place but
 // for the ticks until its release; its place and its word in a tick that releases it; and the limit below which its word says that it
@@ -31,13 +33,6 @@ pub struct Ticker {
 pub struct Prepared {
     place: [u16; 8],
     word: [u16; 8],
-}
-
-// x where b holds, else y.
-fn either16(b: bool, x: u16, y: u16) -> u16
-    ensures { λ r. ⌜ r ≡ pick b x y ⌝ }
-{
-    if b { x } else { y }
 }
 
 // x less y, and 0 where y is larger.
@@ -82,8 +77,7 @@ fn lowered(places: [u16; 8], words: [u16; 8], m: u16) -> [u16; 8]
     let mut out = [0u16; 8];
     let mut i: usize = 0;
     while i < 8 {
-        let x = places[i];
-        let run = (x < 65535) & ((x == 0) | (ranks[i] < m));
+        let run = runs_by(places[i], ranks[i], m);
         out[i] = less(words[i], run as u16);
         i += 1;
     }
@@ -129,7 +123,7 @@ impl Ticker {
     pub fn after(self, state: Prepared, mask: u8) -> [u16; 8]
         ensures { λ r. ⌜ r ≡ tickedBy self state mask ⌝ }
     {
-        let m = wide(mask);
+        let m = wide16(mask);
         let place = state.place;
         let newplace = self.newplace;
         let places = self.selected(m, place, newplace);
@@ -167,7 +161,7 @@ fn kept(t: Table) -> [u16; 8]
     let mut out = [0u16; 8];
     let mut i: usize = 0;
     while i < 8 {
-        out[i] = either16(stays, wide(t.work[i]), 0);
+        out[i] = either16(stays, wide16(t.work[i]), 0);
         i += 1;
     }
     out
@@ -214,7 +208,7 @@ impl Table {
             newword: idle.words(),
             limit: limits(self),
             counts: either16(self.policy < 2, 0, 255),
-            m: wide(self.m),
+            m: wide16(self.m),
         }
     }
 }

@@ -3,10 +3,10 @@ ghost use mathlib.Core.Path.{_≡_};
 ghost use Prim.Native.Nat.{_/_, _%_};
 ghost use Rattle.tasks.specs.Tick.{missed};
 ghost use Rattle.tasks.specs.Words.{wordsOf, stateOf};
-use crate::places::wide;
 use crate::state::State;
-use crate::state::slack_of;
+use crate::state::late_job;
 use crate::table::Table;
+use crate::widths::wide16;
 
 // The work left in a word.
 pub fn work_in(w: u16) -> u8
@@ -30,7 +30,7 @@ impl State {
         let mut out = [0u16; 8];
         let mut i: usize = 0;
         while i < 8 {
-            out[i] = wide(self.c[i]) + 256 * wide(self.p[i]);
+            out[i] = wide16(self.c[i]) + 256 * wide16(self.p[i]);
             i += 1;
         }
         out
@@ -60,7 +60,7 @@ pub fn misses(t: Table, v: [u16; 8]) -> bool
     let mut i: usize = 0;
     while i < 8 {
         let c = work_in(v[i]);
-        found = found | ((0 < c) & (slack_of(t.deadline[i], t.gap[i], gap_in(v[i]), c) < 0));
+        found = found | late_job(t.deadline[i], t.gap[i], gap_in(v[i]), c);
         i += 1;
     }
     found

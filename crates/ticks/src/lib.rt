@@ -68,22 +68,23 @@ fn state_at(b: &[u8], k: usize) -> State
     }
 }
 
-// The state after a tick, by a table made ready.
-fn ticked(ticker: Ticker, s: State, mask: u8) -> State
-    ensures { λ r. ⌜ r ≡ stateOf (tickedBy ticker (preparedBy ticker (wordsOf s)) mask) ⌝ }
+// The words after a tick, by a table made ready.
+fn ticked(ticker: Ticker, s: State, mask: u8) -> [u16; 8]
+    ensures { λ r. ⌜ r ≡ tickedBy ticker (preparedBy ticker (wordsOf s)) mask ⌝ }
 {
     let ready = ticker.prepare(s.words());
-    State::of_words(ticker.after(ready, mask))
+    ticker.after(ready, mask)
 }
 
-// A state and whether it is missed, as one number.
-fn figure(t: Table, s: State) -> u64
-    ensures { λ r. ⌜ r ≡ figure t s ⌝ }
+// A state in words and whether it is missed, as one number.
+fn figure(t: Table, v: [u16; 8]) -> u64
+    ensures { λ r. ⌜ r ≡ figure t (stateOf v) ⌝ }
 {
+    let s = State::of_words(v);
     let c = s.c;
     let p = s.p;
     let both = std::num::wrapping_add_u64(word(c), word(p));
-    std::num::wrapping_add_u64(both, s.missed(t) as u64)
+    std::num::wrapping_add_u64(both, tasks::misses(t, v) as u64)
 }
 
 // How many ticks there are.

@@ -20,7 +20,6 @@ fn answer(kind: u8, body: &[u8]) {
         b't' => table::table(body),
         b'w' => writer::write(body),
         b'r' => writer::round(body),
-        b'c' => tick::choose(body),
         b'k' => tick::tick(body),
         b'p' => tick::replay(body),
         b'v' => verdicts::search(body),

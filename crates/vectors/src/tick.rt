@@ -1,4 +1,4 @@
-// States, choices, ticks and replays.
+// States, ticks and replays.
 use crate::table;
 use crate::text;
 use tasks::Outcome;
@@ -45,33 +45,6 @@ fn print(s: State) {
         print_task(c[i], p[i]);
         i += 1;
     }
-}
-
-// Prints 1 for a task that runs, and 0 for one that does not.
-fn print_choice(runs: bool) {
-    if runs {
-        text::small(1);
-    } else {
-        text::small(0);
-    }
-}
-
-// Prints which of the eight tasks run.
-fn print_choices(runs: [bool; 8]) {
-    let mut i: usize = 0;
-    while i < 8 {
-        print_choice(runs[i]);
-        i += 1;
-    }
-}
-
-// Kind c, a table and a state, proper or not: the tasks that run.
-pub fn choose(body: &[u8]) {
-    let t = table::of_body(body);
-    let s = of_body(text::rest(body, table::LENGTH));
-    text::put(b"choose");
-    print_choices(s.choose(t));
-    text::end();
 }
 
 // Kind k, a table, a state and a mask: the answer of one tick, and its state.

@@ -11,14 +11,8 @@ prepare-requires c κs = search needs
 after-requires : tie.Need-after-requires
 after-requires c κs = search needs
 
-of-words-requires : tie.Need-of-words-requires
-of-words-requires c κs = search needs
-
 returns : tie.Need-returns
-returns c =
-    let h = c .before in
-    rw (c .of-words .ensures, h .after .ensures, h .before .prepare .ensures, h .before .before .words .ensures)
+returns c = rw (c .after .ensures, c .before .prepare .ensures, c .before .before .words .ensures)
 
 pub ticked-spec : {M : Type 1} → statement M
-ticked-spec =
-    tie.close (tie.spec words-requires prepare-requires after-requires of-words-requires returns)
+ticked-spec = tie.close (tie.spec words-requires prepare-requires after-requires returns)

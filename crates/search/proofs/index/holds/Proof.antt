@@ -3,8 +3,7 @@ use Prim.Native.Nat.{_-_}
 use mathlib.Core.Path.{_≡_, sym, _∙_}
 use lib.ListN.{length}
 use Rattle.tasks.specs.Words.{stateOf}
-use Rattle.levels.specs.Index.{Walk}
-use Rattle.levels.proofs.Index.{walk-start, walk-next, walk-falls, walk-end}
+use Rattle.levels.proofs.Index.{Walk, walk-start, walk-next, walk-falls, walk-end}
 use Rattle.search.specs.Slot.{keyAt, bucketFor, bucketOf, tagOf, newest, tagsIn}
 use Rattle.search.proofs.WordLaws.{word-bytes}
 use Rattle.search.proofs.KeyLaws.{Bytes, keys-same, keys-differ}

@@ -3,7 +3,7 @@ use mathlib.Core.Path.{ap}
 use native.Mathlib.Omega.{arith}
 use lib.Bits.{bitAnd}
 use borrow.Author.Needs.{needs}
-use Rattle.search.specs.Masks.{next}
+use Rattle.search.specs.Masks.{nextMask}
 use Rattle.search.proofs.MaskLaws.{wrapped}
 use Rattle.search.proofs.masks.next_mask.Statement.{statement}
 use Rattle.search.proofs.masks.next_mask.Tie as tie
@@ -12,7 +12,7 @@ wrapping-sub-u8-requires : tie.Need-wrapping-sub-u8-requires
 wrapping-sub-u8-requires c κs = search needs
 
 returns : tie.Need-returns
-unfolding next
+unfolding nextMask
 returns c =
     let a = c .before .args in
     let r = c .wrapping-sub-u8 in

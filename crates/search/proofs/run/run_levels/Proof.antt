@@ -3,8 +3,7 @@ use mathlib.Core.Path.{_≡_, refl, ap, _∙_}
 use Prim.Native.Nat.{_-_}
 use lib.ListN.{length}
 use Rattle.tasks.specs.Words.{stateOf}
-use Rattle.search.specs.Keeping.{Stands}
-use Rattle.search.proofs.RunLaws.{none-indexed, first-stands, stands-level, stands-trace, next-stands, ran-miss, ran-safe, ran-full}
+use Rattle.search.proofs.RunLaws.{Stands, none-indexed, first-stands, stands-level, stands-trace, next-stands, ran-miss, ran-safe, ran-full}
 use native.Mathlib.Omega.{arith}
 use borrow.Author.Needs.{needs}
 use Rattle.search.proofs.run.run_levels.Statement.{statement}
@@ -77,7 +76,8 @@ store-level-requires : tie.Need-store-level-requires Inv-loop μ-loop
 store-level-requires c κs =
     let stands = c .before .before .before .before .before .before .loop .inv .2 in
     let pre = c .before .before .before .before .before .before .before .before .before .before .before .before .before .before .before .before .before .pre in
-    (pre .0, stands .standing .explored .order, stands-level (pre .1) stands, stands .room)
+    let order = stands .standing .explored .order in
+    (pre .0, omega arith, stands-level (pre .1) stands, stands .room)
 
 enum-told-2 : tie.Need-enum-told-2 Inv-loop μ-loop
 enum-told-2 c = search needs

@@ -1,5 +1,6 @@
 -- What the levels leave, with the links cleared, is what the claim says. Assumes nothing.
 use Prim.Native.Nat.{_-_}
+use native.Mathlib.Omega.{arith}
 use Rattle.search.proofs.ClaimLaws.{ran-fits, ran-found}
 use borrow.Author.Needs.{needs}
 use Rattle.search.proofs.search.search_with.Statement.{statement}
@@ -32,7 +33,7 @@ returns : tie.Need-returns
 returns c =
     let run = c .before .before .before .before .before .before .before .before .before .before .before .run-levels in
     let spaces = c .before .before .before .before .before .before .before .before .before .before .before .before .before .before .before .before .before .before .before .pre in
-    ran-found (spaces .0) (run .ensures) (spaces .1) (run .kept .1 .1 .0) (run .kept .1 .1 .1 .0) (rw (c .before .before .before .before .count-of .ensures) at (c .before .before .clear-links .ensures))
+    ran-found (spaces .0) (run .ensures) (spaces .1) (run .kept .1 .1 .0) (run .kept .1 .1 .1 .0) (λ i. omega (arith, c .before .before .before .before .before .before .before .slice-known5 .given i)) (rw (c .before .before .before .before .count-of .ensures) at (c .before .before .clear-links .ensures))
 
 pub search-with-spec : {M : Type 1} → statement M
 search-with-spec =

@@ -2,8 +2,7 @@
 use mathlib.Core.Path.{_≡_, refl, _∙_}
 use Prim.Native.Nat.{_-_, _≤_}
 use lib.ListN.{length}
-use Rattle.search.specs.Keeping.{LevelTo}
-use Rattle.search.proofs.StoreLaws.{level-start, level-ready, level-row, level-full, level-end}
+use Rattle.search.proofs.StoreLaws.{LevelTo, level-start, level-ready, level-row, level-full, level-end}
 use native.Mathlib.Omega.{arith}
 use borrow.Author.Needs.{needs}
 use Rattle.search.proofs.store.store_level.Statement.{statement}

@@ -4,13 +4,13 @@ use Prim.Native.Nat.{ℕ, _-_, _≤_}
 use mathlib.Core.Logic.{⊎-elim}
 use lib.ListN.{length}
 use Rattle.tasks.specs.Tick.{after}
+use Rattle.tasks.specs.Masks.{freeMask}
 use Rattle.tasks.specs.Ticker.{tickerOf}
 use Rattle.tasks.specs.declared.table.Table.{Table}
 use Rattle.tasks.proofs.Ticking.{TableBytes, WordList}
+use Rattle.tasks.proofs.Free.{ticks, frees}
 use Rattle.search.specs.Keeping.{RowReady}
-use Rattle.search.specs.Masks.{freeMask}
 use Rattle.search.specs.Slot.{stateAt}
-use Rattle.search.proofs.TickerLaws.{ticks, frees}
 use Rattle.search.proofs.StoreLaws.{RowBy, row-start, row-known, row-added, row-crowded, row-falls, row-end}
 use native.Mathlib.Omega.{arith}
 use borrow.Author.Needs.{needs}

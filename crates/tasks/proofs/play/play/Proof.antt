@@ -3,6 +3,7 @@ use mathlib.Core.Path.{_≡_, sym, _∙_}
 use lib.ListN.{length, drop}
 use Rattle.tasks.specs.State.{start}
 use Rattle.tasks.specs.Replay.{played}
+use Rattle.tasks.proofs.Answers.{tick-is}
 use Rattle.tasks.proofs.Played.{played-step, played-end}
 use native.Mathlib.Omega.{arith}
 use borrow.Author.Needs.{needs}
@@ -39,7 +40,7 @@ loop-less c = search needs
 loop-again : tie.Need-loop-again Inv-loop μ-loop
 loop-again c =
     let h = c .before .before .before .before .before .before in
-    (omega arith, h .loop .inv .1 ∙ played-step _ _ _ _ (omega arith) (c .before .before .before .tick .ensures .0) (c .enum-told .given .1))
+    (omega arith, h .loop .inv .1 ∙ played-step _ _ _ _ (omega arith) (tick-is (c .before .before .before .tick .ensures)) (c .enum-told .given .1))
 
 enum-told-2 : tie.Need-enum-told-2 Inv-loop μ-loop
 enum-told-2 c = search needs
@@ -47,7 +48,7 @@ enum-told-2 c = search needs
 returns : tie.Need-returns Inv-loop μ-loop
 returns c =
     let h = c .before .before .before .before .before .before in
-    sym (h .loop .inv .1 ∙ played-step _ _ _ _ (omega arith) (c .before .before .before .tick .ensures .0) (c .enum-told2 .given .1))
+    sym (h .loop .inv .1 ∙ played-step _ _ _ _ (omega arith) (tick-is (c .before .before .before .tick .ensures)) (c .enum-told2 .given .1))
 
 enum-known-answer : tie.Need-enum-known-answer Inv-loop μ-loop
 enum-known-answer c = search needs
@@ -55,7 +56,7 @@ enum-known-answer c = search needs
 returns-2 : tie.Need-returns-2 Inv-loop μ-loop
 returns-2 c =
     let h = c .before .before .before .before .before .before .before in
-    sym (h .loop .inv .1 ∙ played-step _ _ _ _ (omega arith) (c .before .before .before .before .tick .ensures .0) (c .before .answer .given .1))
+    sym (h .loop .inv .1 ∙ played-step _ _ _ _ (omega arith) (tick-is (c .before .before .before .before .tick .ensures)) (c .before .answer .given .1))
 
 returns-3 : tie.Need-returns-3 Inv-loop μ-loop
 returns-3 c =

@@ -18,8 +18,8 @@ refused-requires c κs = search needs
 enum-known-next : tie.Need-enum-known-next
 enum-known-next c = search needs
 
-read-policy-requires : tie.Need-read-policy-requires
-read-policy-requires c κs = search needs
+read-header-requires : tie.Need-read-header-requires
+read-header-requires c κs = search needs
 
 returns : tie.Need-returns
 unfolding sheetOf
@@ -27,7 +27,7 @@ returns c = let e = sym (c .before .before .before .before .read-field .ensures)
 
 returns-2 : tie.Need-returns-2
 unfolding sheetOf
-returns-2 c = let e = sym (c .before .before .before .before .read-field .ensures) ∙ c .before .before .next .given .1 in sheet-told (rw e (c .read-policy .ensures))
+returns-2 c = let e = sym (c .before .before .before .before .read-field .ensures) ∙ c .before .before .next .given .1 in sheet-told (rw e (c .read-header .ensures))
 
 pub read-sheet-spec : {M : Type 1} → statement M
 read-sheet-spec =
@@ -37,6 +37,6 @@ read-sheet-spec =
     enum-known-r
     refused-requires
     enum-known-next
-    read-policy-requires
+    read-header-requires
     returns
     returns-2)

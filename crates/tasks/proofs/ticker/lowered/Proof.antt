@@ -24,17 +24,20 @@ ranks-requires c κs = search needs
 loop-holds : tie.Need-loop-holds Inv-loop μ-loop
 loop-holds c = (omega arith, c .ranks .ensures, filled-start refl)
 
-mul-x : tie.Need-mul-x Inv-loop μ-loop
-mul-x c = search needs
+mul-runs-by : tie.Need-mul-runs-by Inv-loop μ-loop
+mul-runs-by c = search needs
 
-array-read-x : tie.Need-array-read-x Inv-loop μ-loop
-array-read-x c = search needs
+array-read-runs-by : tie.Need-array-read-runs-by Inv-loop μ-loop
+array-read-runs-by c = search needs
 
-mul-run : tie.Need-mul-run Inv-loop μ-loop
-mul-run c = search needs
+mul-runs-by-2 : tie.Need-mul-runs-by-2 Inv-loop μ-loop
+mul-runs-by-2 c = search needs
 
-array-read-run : tie.Need-array-read-run Inv-loop μ-loop
-array-read-run c = search needs
+array-read-runs-by-2 : tie.Need-array-read-runs-by-2 Inv-loop μ-loop
+array-read-runs-by-2 c = search needs
+
+runs-by-requires : tie.Need-runs-by-requires Inv-loop μ-loop
+runs-by-requires c κs = search needs
 
 mul-less : tie.Need-mul-less Inv-loop μ-loop
 mul-less c = search needs
@@ -63,10 +66,11 @@ loop-less c = search needs
 loop-again : tie.Need-loop-again Inv-loop μ-loop
 unfolding taken
 loop-again c =
-    let h = c .before .before in
+    let run = c .before in
+    let h = run .before .before in
     let a = h .before .before .args in
     let k = rank-read (a .t1) 8 (h .loop .i) (h .loop .inv .1) (omega arith) in
-    (omega arith, h .loop .inv .1, filled-store (h .loop .inv .2) (omega arith) (c .less .ensures ∙ rw k (ap (λ n. getD (a .t2) (h .loop .i) 0 - n) (bool-byte (taken (a .t1) (a .m) (h .loop .i))))))
+    (omega arith, h .loop .inv .1, filled-store (h .loop .inv .2) (omega arith) (c .less .ensures ∙ rw (run .runs-by .ensures, k) (ap (λ n. getD (a .t2) (h .loop .i) 0 - n) (bool-byte (taken (a .t1) (a .m) (h .loop .i))))))
 
 returns : tie.Need-returns Inv-loop μ-loop
 unfolding lowered
@@ -80,10 +84,11 @@ lowered-spec =
     μ-loop
     ranks-requires
     loop-holds
-    mul-x
-    array-read-x
-    mul-run
-    array-read-run
+    mul-runs-by
+    array-read-runs-by
+    mul-runs-by-2
+    array-read-runs-by-2
+    runs-by-requires
     mul-less
     array-read-less
     cast-less

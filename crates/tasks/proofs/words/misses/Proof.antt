@@ -7,7 +7,6 @@ use Rattle.tasks.specs.Tick.{missed}
 use Rattle.tasks.specs.Words.{stateOf}
 use Rattle.tasks.proofs.Turns.{any-none, any-turn, any-end}
 use Rattle.tasks.proofs.InWords.{late-word}
-use Rattle.tasks.proofs.Signed.{back}
 use borrow.Author.Needs.{needs}
 use Rattle.tasks.proofs.words.misses.Statement.{statement}
 use Rattle.tasks.proofs.words.misses.Tie as tie
@@ -30,11 +29,11 @@ array-read-work-in c = search needs
 work-in-requires : tie.Need-work-in-requires Inv-loop μ-loop
 work-in-requires c κs = search needs
 
-element-copy-out-slack-of : tie.Need-element-copy-out-slack-of Inv-loop μ-loop
-element-copy-out-slack-of c = search needs
+element-copy-out-late-job : tie.Need-element-copy-out-late-job Inv-loop μ-loop
+element-copy-out-late-job c = search needs
 
-element-copy-out-slack-of-2 : tie.Need-element-copy-out-slack-of-2 Inv-loop μ-loop
-element-copy-out-slack-of-2 c = search needs
+element-copy-out-late-job-2 : tie.Need-element-copy-out-late-job-2 Inv-loop μ-loop
+element-copy-out-late-job-2 c = search needs
 
 mul-gap-in : tie.Need-mul-gap-in Inv-loop μ-loop
 mul-gap-in c = search needs
@@ -45,8 +44,8 @@ array-read-gap-in c = search needs
 gap-in-requires : tie.Need-gap-in-requires Inv-loop μ-loop
 gap-in-requires c κs = search needs
 
-slack-of-requires : tie.Need-slack-of-requires Inv-loop μ-loop
-slack-of-requires c κs = search needs
+late-job-requires : tie.Need-late-job-requires Inv-loop μ-loop
+late-job-requires c κs = search needs
 
 add-i : tie.Need-add-i Inv-loop μ-loop
 add-i c = search needs
@@ -57,7 +56,7 @@ loop-less c = search needs
 loop-again : tie.Need-loop-again Inv-loop μ-loop
 loop-again c =
     let h = c .before .before .before .before .before .before in
-    (omega arith, any-turn (late (h .before .args .t1) (stateOf (h .before .args .t2))) (h .loop .i) (h .loop .inv .1) (rw (back (c .slack-of .result) (c .slack-of .ok), c .slack-of .ensures, c .before .gap-in .ensures, c .before .before .before .before .work-in .ensures) (late-word (h .before .args .t2) (h .loop .i) (omega arith) (h .before .args .t1))))
+    (omega arith, any-turn (late (h .before .args .t1) (stateOf (h .before .args .t2))) (h .loop .i) (h .loop .inv .1) (rw (c .late-job .ensures, c .before .gap-in .ensures, c .before .before .before .before .work-in .ensures) (late-word (h .before .args .t2) (h .loop .i) (omega arith) (h .before .args .t1))))
 
 returns : tie.Need-returns Inv-loop μ-loop
 unfolding missed
@@ -75,12 +74,12 @@ misses-spec =
     mul-work-in
     array-read-work-in
     work-in-requires
-    element-copy-out-slack-of
-    element-copy-out-slack-of-2
+    element-copy-out-late-job
+    element-copy-out-late-job-2
     mul-gap-in
     array-read-gap-in
     gap-in-requires
-    slack-of-requires
+    late-job-requires
     add-i
     loop-less
     loop-again

@@ -22,23 +22,26 @@ places-requires c κs = search needs
 ranks-requires : tie.Need-ranks-requires Inv-loop μ-loop
 ranks-requires c κs = search needs
 
-wide-requires : tie.Need-wide-requires Inv-loop μ-loop
-wide-requires c κs = search needs
+wide16-requires : tie.Need-wide16-requires Inv-loop μ-loop
+wide16-requires c κs = search needs
 
 loop-holds : tie.Need-loop-holds Inv-loop μ-loop
 loop-holds c = (omega arith, c .before .ranks .ensures, filled-start refl)
 
-mul-x : tie.Need-mul-x Inv-loop μ-loop
-mul-x c = search needs
+mul-runs-by : tie.Need-mul-runs-by Inv-loop μ-loop
+mul-runs-by c = search needs
 
-array-read-x : tie.Need-array-read-x Inv-loop μ-loop
-array-read-x c = search needs
+array-read-runs-by : tie.Need-array-read-runs-by Inv-loop μ-loop
+array-read-runs-by c = search needs
 
-mul-run : tie.Need-mul-run Inv-loop μ-loop
-mul-run c = search needs
+mul-runs-by-2 : tie.Need-mul-runs-by-2 Inv-loop μ-loop
+mul-runs-by-2 c = search needs
 
-array-read-run : tie.Need-array-read-run Inv-loop μ-loop
-array-read-run c = search needs
+array-read-runs-by-2 : tie.Need-array-read-runs-by-2 Inv-loop μ-loop
+array-read-runs-by-2 c = search needs
+
+runs-by-requires : tie.Need-runs-by-requires Inv-loop μ-loop
+runs-by-requires c κs = search needs
 
 array-write-run : tie.Need-array-write-run Inv-loop μ-loop
 array-write-run c = search needs
@@ -52,8 +55,8 @@ loop-less c = search needs
 loop-again : tie.Need-loop-again Inv-loop μ-loop
 unfolding taken
 loop-again c =
-    let h = c .before in
-    (omega arith, h .loop .inv .1, filled-store (h .loop .inv .2) (omega arith) (rw (rank-read (h .before .before .before .places .result) 8 (h .loop .i) (h .loop .inv .1) (omega arith))))
+    let h = c .before .before in
+    (omega arith, h .loop .inv .1, filled-store (h .loop .inv .2) (omega arith) (c .runs-by .ensures ∙ rw (rank-read (h .before .before .before .places .result) 8 (h .loop .i) (h .loop .inv .1) (omega arith))))
 
 -- the numbers that a place is made of are bytes
 bytes : (c : tie.Start Inv-loop μ-loop) (i : ℕ) → Bytes (c .args .t) (c .args .self) i
@@ -64,7 +67,7 @@ returns c =
     let h = c .before in
     let first = h .before .before .before .before in
     filled-end (h .loop .inv .2) (c .loop-test .left)
-    ∙ rw (h .before .wide .ensures .0, h .before .before .before .places .ensures)
+    ∙ rw (h .before .wide16 .ensures .0, h .before .before .before .places .ensures)
     (taken-chosen (first .args .t) (first .args .self) (λ i b. bytes first i))
 
 pub choose-spec : {M : Type 1} → statement M
@@ -75,12 +78,13 @@ choose-spec =
     μ-loop
     places-requires
     ranks-requires
-    wide-requires
+    wide16-requires
     loop-holds
-    mul-x
-    array-read-x
-    mul-run
-    array-read-run
+    mul-runs-by
+    array-read-runs-by
+    mul-runs-by-2
+    array-read-runs-by-2
+    runs-by-requires
     array-write-run
     add-i
     loop-less

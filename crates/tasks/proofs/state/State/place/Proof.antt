@@ -21,12 +21,12 @@ shifted-requires c κs = search needs
 keeps-requires : tie.Need-keeps-requires
 keeps-requires c κs = search needs
 
-packed-requires : tie.Need-packed-requires
-packed-requires c κs = search needs
+place-of-requires : tie.Need-place-of-requires
+place-of-requires c κs = search needs
 
 returns : tie.Need-returns
 unfolding place shiftedAt
-returns c = rw (c .packed .ensures, c .before .before .shifted .ensures .0, c .before .keeps .ensures)
+returns c = rw (c .place-of .ensures, c .before .before .shifted .ensures .0, c .before .keeps .ensures)
 
 pub place-spec : {M : Type 1} → statement M
 place-spec =
@@ -38,5 +38,5 @@ place-spec =
     element-copy-out-shifted-3
     shifted-requires
     keeps-requires
-    packed-requires
+    place-of-requires
     returns)

@@ -2,7 +2,8 @@ use Prim.Native.Nat.{_≤_}
 use mathlib.Core.Path.{sym, ap, _∙_}
 use Rattle.tasks.specs.Tick.{refusal, answered}
 use Rattle.tasks.specs.declared.tick.TickAnswer.the-variants.{Next, Missed, Refused}
-use Rattle.tasks.proofs.Answered.{ticked-refused, ticked-missed, ticked-next, number-refused, number-missed, number-next}
+use Rattle.tasks.proofs.Answers.{tick-told}
+use Rattle.tasks.proofs.Answered.{ticked-refused, ticked-missed, ticked-next}
 use borrow.Author.Needs.{needs}
 use Rattle.tasks.proofs.state.State.tick.Statement.{statement}
 use Rattle.tasks.proofs.state.State.tick.Tie as tie
@@ -22,7 +23,7 @@ returns c =
     let a = c .before .before .before .args in
     let e = c .before .before .refusal .ensures in
     let r = c .answered .ensures ∙ ap (λ n. answered (Refused n) (a .self)) e in
-    (r ∙ ticked-refused (a .t) (a .self) (a .mask) (rw e at (c .before .if1 .taken)), number-refused (a .t) (a .self) (a .mask) (ap (λ x. x .answer) r))
+    tick-told (r ∙ ticked-refused (a .t) (a .self) (a .mask) (rw e at (c .before .if1 .taken)))
 
 advance-requires : tie.Need-advance-requires
 advance-requires c κs = search needs
@@ -39,7 +40,7 @@ returns-2 c =
     let e = c .before .before .before .advance .ensures in
     let none = passed (c .before .before .before .before) in
     let miss = sym (c .before .before .missed .ensures) ∙ c .before .if2 .taken in
-    (c .answered2 .ensures ∙ ap (answered Missed) e ∙ ticked-missed (a .t) (a .self) (a .mask) none (rw e at miss), number-missed (a .t) (a .self) (a .mask) (ap (λ x. x .answer) (c .answered2 .ensures)) none)
+    tick-told (c .answered2 .ensures ∙ ap (answered Missed) e ∙ ticked-missed (a .t) (a .self) (a .mask) none (rw e at miss))
 
 answered-requires-3 : tie.Need-answered-requires-3
 answered-requires-3 c κs = search needs
@@ -50,7 +51,7 @@ returns-3 c =
     let e = c .before .before .before .advance .ensures in
     let none = passed (c .before .before .before .before) in
     let miss = sym (c .before .before .missed .ensures) ∙ c .before .if2 .left in
-    (c .answered3 .ensures ∙ ap (answered Next) e ∙ ticked-next (a .t) (a .self) (a .mask) none (rw e at miss), number-next (a .t) (a .self) (a .mask) (ap (λ x. x .answer) (c .answered3 .ensures)) none)
+    tick-told (c .answered3 .ensures ∙ ap (answered Next) e ∙ ticked-next (a .t) (a .self) (a .mask) none (rw e at miss))
 
 pub tick-spec : {M : Type 1} → statement M
 tick-spec =

@@ -17,23 +17,23 @@ abbrev μ-loop : tie.MeasureT-loop
 loop-holds : tie.Need-loop-holds Inv-loop μ-loop
 loop-holds c = (omega arith, filled-start refl)
 
-element-copy-out-wide : tie.Need-element-copy-out-wide Inv-loop μ-loop
-element-copy-out-wide c = search needs
+element-copy-out-wide16 : tie.Need-element-copy-out-wide16 Inv-loop μ-loop
+element-copy-out-wide16 c = search needs
 
-wide-requires : tie.Need-wide-requires Inv-loop μ-loop
-wide-requires c κs = search needs
+wide16-requires : tie.Need-wide16-requires Inv-loop μ-loop
+wide16-requires c κs = search needs
 
-element-copy-out-wide-2 : tie.Need-element-copy-out-wide-2 Inv-loop μ-loop
-element-copy-out-wide-2 c = search needs
+element-copy-out-wide16-2 : tie.Need-element-copy-out-wide16-2 Inv-loop μ-loop
+element-copy-out-wide16-2 c = search needs
 
-wide-requires-2 : tie.Need-wide-requires-2 Inv-loop μ-loop
-wide-requires-2 c κs = search needs
+wide16-requires-2 : tie.Need-wide16-requires-2 Inv-loop μ-loop
+wide16-requires-2 c κs = search needs
 
 mul-out : tie.Need-mul-out Inv-loop μ-loop
-mul-out c = omega (arith, c .wide2 .ensures .1)
+mul-out c = omega (arith, c .wide162 .ensures .1)
 
 add-out : tie.Need-add-out Inv-loop μ-loop
-add-out c = omega (arith, c .wide2 .ensures .1, c .before .before .wide .ensures .1)
+add-out c = omega (arith, c .wide162 .ensures .1, c .before .before .wide16 .ensures .1)
 
 mul-out-2 : tie.Need-mul-out-2 Inv-loop μ-loop
 mul-out-2 c = search needs
@@ -48,7 +48,7 @@ loop-less : tie.Need-loop-less Inv-loop μ-loop
 loop-less c = search needs
 
 loop-again : tie.Need-loop-again Inv-loop μ-loop
-loop-again c = (omega arith, filled-store (c .before .before .before .before .before .loop .inv .1) (omega arith) (ap₂ (λ x y. x + 256 * y) (c .before .before .wide .ensures .0) (c .wide2 .ensures .0)))
+loop-again c = (omega arith, filled-store (c .before .before .before .before .before .loop .inv .1) (omega arith) (ap₂ (λ x y. x + 256 * y) (c .before .before .wide16 .ensures .0) (c .wide162 .ensures .0)))
 
 returns : tie.Need-returns Inv-loop μ-loop
 unfolding wordsOf
@@ -61,10 +61,10 @@ words-spec =
     Inv-loop
     μ-loop
     loop-holds
-    element-copy-out-wide
-    wide-requires
-    element-copy-out-wide-2
-    wide-requires-2
+    element-copy-out-wide16
+    wide16-requires
+    element-copy-out-wide16-2
+    wide16-requires-2
     mul-out
     add-out
     mul-out-2

@@ -7,28 +7,29 @@ use borrow.Author.Needs.{needs}
 use Rattle.tasks.proofs.table.Table.fault.Statement.{statement}
 use Rattle.tasks.proofs.table.Table.fault.Tie as tie
 
-returns : tie.Need-returns
-unfolding tableFault
-returns c = pick-yes _ (lt-ltb _ _ (c .if1 .taken))
-
 outside-requires : tie.Need-outside-requires
 outside-requires c κs = search needs
-
-returns-2 : tie.Need-returns-2
-unfolding tableFault
-returns-2 c =
-    pick-no _ (le-ltb _ _ (c .before .before .if1 .left))
-    (pick-yes _ (sym (c .before .outside .ensures) ∙ c .if2 .taken))
 
 outside-requires-2 : tie.Need-outside-requires-2
 outside-requires-2 c κs = search needs
 
+returns : tie.Need-returns
+unfolding tableFault
+returns c = pick-yes _ (lt-ltb _ _ (c .if1 .taken))
+
+returns-2 : tie.Need-returns-2
+unfolding tableFault
+returns-2 c =
+    let h = c .before in
+    pick-no _ (le-ltb _ _ (h .if1 .left)) (pick-yes _ (sym (h .before .before .outside .ensures) ∙ c .if2 .taken))
+
 returns-3 : tie.Need-returns-3
 unfolding tableFault
 returns-3 c =
-    pick-no _ (le-ltb _ _ (c .before .before .before .before .if1 .left))
-    (pick-no _ (sym (c .before .before .before .outside .ensures) ∙ c .before .before .if2 .left)
-    (pick-yes _ (sym (c .before .outside2 .ensures) ∙ c .if3 .taken)))
+    let h = c .before .before in
+    pick-no _ (le-ltb _ _ (h .if1 .left))
+    (pick-no _ (sym (h .before .before .outside .ensures) ∙ c .before .if2 .left)
+    (pick-yes _ (sym (h .before .outside2 .ensures) ∙ c .if3 .taken)))
 
 any-fault-requires : tie.Need-any-fault-requires
 any-fault-requires c κs = search needs
@@ -36,27 +37,29 @@ any-fault-requires c κs = search needs
 returns-4 : tie.Need-returns-4
 unfolding tableFault
 returns-4 c =
-    pick-no _ (le-ltb _ _ (c .before .before .before .before .before .before .if1 .left))
-    (pick-no _ (sym (c .before .before .before .before .before .outside .ensures) ∙ c .before .before .before .before .if2 .left)
-    (pick-no _ (sym (c .before .before .before .outside2 .ensures) ∙ c .before .before .if3 .left)
+    let h = c .before .before .before .before in
+    pick-no _ (le-ltb _ _ (h .if1 .left))
+    (pick-no _ (sym (h .before .before .outside .ensures) ∙ c .before .before .before .if2 .left)
+    (pick-no _ (sym (h .before .outside2 .ensures) ∙ c .before .before .if3 .left)
     (pick-yes _ (sym (c .before .any-fault .ensures) ∙ c .if4 .taken))))
 
 returns-5 : tie.Need-returns-5
 unfolding tableFault
 returns-5 c =
-    pick-no _ (le-ltb _ _ (c .before .before .before .before .before .before .if1 .left))
-    (pick-no _ (sym (c .before .before .before .before .before .outside .ensures) ∙ c .before .before .before .before .if2 .left)
-    (pick-no _ (sym (c .before .before .before .outside2 .ensures) ∙ c .before .before .if3 .left)
+    let h = c .before .before .before .before in
+    pick-no _ (le-ltb _ _ (h .if1 .left))
+    (pick-no _ (sym (h .before .before .outside .ensures) ∙ c .before .before .before .if2 .left)
+    (pick-no _ (sym (h .before .outside2 .ensures) ∙ c .before .before .if3 .left)
     (pick-no _ (sym (c .before .any-fault .ensures) ∙ c .if4 .left) refl)))
 
 pub fault-spec : {M : Type 1} → statement M
 fault-spec =
     tie.close
     (tie.spec
-    returns
     outside-requires
-    returns-2
     outside-requires-2
+    returns
+    returns-2
     returns-3
     any-fault-requires
     returns-4

@@ -37,8 +37,8 @@ limits-requires c κs = search needs
 either16-requires : tie.Need-either16-requires
 either16-requires c κs = search needs
 
-wide-requires : tie.Need-wide-requires
-wide-requires c κs = search needs
+wide16-requires : tie.Need-wide16-requires
+wide16-requires c κs = search needs
 
 returns : tie.Need-returns
 unfolding tickerOf
@@ -60,7 +60,7 @@ returns c =
       newword = word j;
       limit = l .limits .ensures j;
       counts = c .before .either16 .ensures j;
-      m = c .wide .ensures .0 j;
+      m = c .wide16 .ensures .0 j;
     }
 
 pub ticker-spec : {M : Type 1} → statement M
@@ -76,5 +76,5 @@ ticker-spec =
     words-requires
     limits-requires
     either16-requires
-    wide-requires
+    wide16-requires
     returns)

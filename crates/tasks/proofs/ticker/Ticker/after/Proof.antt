@@ -5,8 +5,8 @@ use borrow.Author.Needs.{needs}
 use Rattle.tasks.proofs.ticker.Ticker.after.Statement.{statement}
 use Rattle.tasks.proofs.ticker.Ticker.after.Tie as tie
 
-wide-requires : tie.Need-wide-requires
-wide-requires c κs = search needs
+wide16-requires : tie.Need-wide16-requires
+wide16-requires c κs = search needs
 
 selected-requires : tie.Need-selected-requires
 selected-requires c κs = search needs
@@ -26,10 +26,10 @@ returns c =
     let a = m .before .args in
     c .lowered .ensures
     ∙ ap₂ (λ p w. lowered p w (a .self .m))
-    (first .selected .ensures ∙ ap (λ n. eight (selected (a .self .bits) n (a .state .place) (a .self .newplace))) (m .wide .ensures .0))
-    (second .selected2 .ensures ∙ ap (λ n. eight (selected (a .self .bits) n (a .state .word) (a .self .newword))) (m .wide .ensures .0))
+    (first .selected .ensures ∙ ap (λ n. eight (selected (a .self .bits) n (a .state .place) (a .self .newplace))) (m .wide16 .ensures .0))
+    (second .selected2 .ensures ∙ ap (λ n. eight (selected (a .self .bits) n (a .state .word) (a .self .newword))) (m .wide16 .ensures .0))
 
 pub after-spec : {M : Type 1} → statement M
 after-spec =
     tie.close
-    (tie.spec wide-requires selected-requires selected-requires-2 lowered-requires returns)
+    (tie.spec wide16-requires selected-requires selected-requires-2 lowered-requires returns)

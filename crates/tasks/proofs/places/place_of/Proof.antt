@@ -1,6 +1,6 @@
 use borrow.Author.Needs.{needs}
-use Rattle.tasks.proofs.places.packed.Statement.{statement}
-use Rattle.tasks.proofs.places.packed.Tie as tie
+use Rattle.tasks.proofs.places.place_of.Statement.{statement}
+use Rattle.tasks.proofs.places.place_of.Tie as tie
 
 returns : tie.Need-returns
 returns c = search needs
@@ -20,5 +20,5 @@ returns-2 c = rw (c .before .if1 .taken, c .if2 .left)
 returns-3 : tie.Need-returns-3
 returns-3 c = search needs
 
-pub packed-spec : {M : Type 1} → statement M
-packed-spec = tie.close (tie.spec returns mul-result cast-result add-result returns-2 returns-3)
+pub place-of-spec : {M : Type 1} → statement M
+place-of-spec = tie.close (tie.spec returns mul-result cast-result add-result returns-2 returns-3)
