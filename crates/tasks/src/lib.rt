@@ -13,6 +13,7 @@ mod widths;
 mod words;
 mod writer;
 
+// The public calls: each gives a result within the limits or a listed refusal. `State::tick` is one of them.
 pub use copies::copy_sheet;
 pub use copies::copy_table;
 pub use number::Number;
@@ -29,11 +30,14 @@ pub use state::State;
 pub use table::Table;
 pub use tick::TickAnswer;
 pub use tick::Ticked;
+pub use writer::Writing;
+pub use writer::write_sheet;
+
+// The inner interface, for the layers above: it takes any table and any words, and refuses nothing. `Table::ticker`, `State::words` and
+// `State::of_words` are of it.
 pub use ticker::Prepared;
 pub use ticker::Ticker;
 pub use widths::wide;
 pub use words::gap_in;
 pub use words::misses;
 pub use words::work_in;
-pub use writer::Writing;
-pub use writer::write_sheet;

@@ -1,4 +1,4 @@
-// The sheet as bytes: its reader and its writer.
+// The reader of a sheet.
 use crate::number::Number;
 use crate::number::read_number;
 use crate::table::Table;

@@ -1,30 +1,25 @@
 // Many ticks in one call, for the comparison of speed with a native tick (bench/README.md). No part of the engine.
 ghost use mathlib.Core.Path.{_≡_};
-ghost use Prim.Native.Nat.{_+_, _*_, _<_, _≤_};
+ghost use Prim.Native.Nat.{_+_, _*_, _≤_};
 ghost use Rattle.ticks.specs.Ticks.{bytesFrom, tableOf, stateAt, word, figure, pairs, ticksSum};
 ghost use Rattle.tasks.specs.Ticker.{preparedBy, tickedBy};
 ghost use Rattle.tasks.specs.Words.{wordsOf, stateOf};
 use tasks::State;
 use tasks::Table;
 use tasks::Ticker;
-
-// The byte as a wide number.
-fn wide(x: u8) -> u64
-    ensures { λ r. ⌜ (r ≡ x) × (r < 256) ⌝ }
-{
-    x as u64
-}
+use tasks::wide;
 
 // Eight bytes as one number, low byte first.
 fn word(a: [u8; 8]) -> u64
     ensures { λ r. ⌜ r ≡ word a ⌝ }
 {
     let low = wide(a[0]) + wide(a[1]) * 0x100 + wide(a[2]) * 0x10000 + wide(a[3]) * 0x1000000;
-    low
+    let all = low
         + wide(a[4]) * 0x100000000
         + wide(a[5]) * 0x10000000000
         + wide(a[6]) * 0x1000000000000
-        + wide(a[7]) * 0x100000000000000
+        + wide(a[7]) * 0x100000000000000;
+    all as u64
 }
 
 // Eight bytes from a place on.

@@ -53,7 +53,7 @@ fn record(space: &mut [u8]) -> bool {
     if got < 3 {
         return false;
     }
-    let length = text::wide(head[1]) + 256 * text::wide(head[2]);
+    let length = tasks::wide(head[1]) + 256 * tasks::wide(head[2]);
     read_front(head[0], length, space)
 }
 

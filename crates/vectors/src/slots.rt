@@ -24,7 +24,7 @@ fn slot(slots: &[u8], i: usize) -> &[u8] {
 
 // A hash with one byte more (FNV-1a; its low 32 bits are what counts).
 fn mix(hash: usize, byte: u8) -> usize {
-    ((hash ^ text::wide(byte)) % 4294967296) * 16777619
+    ((hash ^ tasks::wide(byte)) % 4294967296) * 16777619
 }
 
 // The hash of a slot's state.

@@ -1,14 +1,7 @@
 // What the lines are made of.
-ghost use mathlib.Core.Path.{_≡_};
-ghost use Prim.Native.Nat.{_<_, _≤_};
+ghost use Prim.Native.Nat.{_≤_};
 use libc::STDOUT_FILENO;
-
-// A byte as a length.
-pub fn wide(x: u8) -> usize
-    ensures { λ r. ⌜ (r ≡ x) × (r < 256) ⌝ }
-{
-    x as usize
-}
+use tasks::wide;
 
 // 1 where something holds, and 0 where it does not.
 pub fn one(holds: bool) -> usize

@@ -128,7 +128,7 @@ fn lend_work(is_call: bool, sheet: &[u8], given: &[u8], work: &mut [u8], trace: 
 fn lend(is_call: bool, body: &[u8]) {
     let mut work = [0u8; 65520];
     let mut trace = [0u8; 8192];
-    let length = text::wide(text::byte(body, 0));
+    let length = tasks::wide(text::byte(body, 0));
     let sheet = text::first(text::rest(body, 1), length);
     lend_work(
         is_call,

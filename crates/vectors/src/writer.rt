@@ -29,7 +29,7 @@ fn write_front(t: Table, length: usize, space: &mut [u8]) {
 // Kind w, a table and the length of an output: what the writer answers and leaves there.
 pub fn write(body: &[u8]) {
     let t = table::of_body(body);
-    let length = text::wide(text::byte(body, table::LENGTH));
+    let length = tasks::wide(text::byte(body, table::LENGTH));
     let mut space = [0u8; 256];
     text::put(b"write");
     write_front(t, length, &mut space);

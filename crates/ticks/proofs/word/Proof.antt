@@ -51,11 +51,11 @@ array-read-wide-5 c = search needs
 wide-requires-5 : tie.Need-wide-requires-5
 wide-requires-5 c κs = search needs
 
-mul-result : tie.Need-mul-result
-mul-result c = search needs
+mul-all : tie.Need-mul-all
+mul-all c = search needs
 
-add-result : tie.Need-add-result
-add-result c = search needs
+add-all : tie.Need-add-all
+add-all c = search needs
 
 array-read-wide-6 : tie.Need-array-read-wide-6
 array-read-wide-6 c = search needs
@@ -63,11 +63,11 @@ array-read-wide-6 c = search needs
 wide-requires-6 : tie.Need-wide-requires-6
 wide-requires-6 c κs = search needs
 
-mul-result-2 : tie.Need-mul-result-2
-mul-result-2 c = search needs
+mul-all-2 : tie.Need-mul-all-2
+mul-all-2 c = search needs
 
-add-result-2 : tie.Need-add-result-2
-add-result-2 c = search needs
+add-all-2 : tie.Need-add-all-2
+add-all-2 c = search needs
 
 array-read-wide-7 : tie.Need-array-read-wide-7
 array-read-wide-7 c = search needs
@@ -75,11 +75,11 @@ array-read-wide-7 c = search needs
 wide-requires-7 : tie.Need-wide-requires-7
 wide-requires-7 c κs = search needs
 
-mul-result-3 : tie.Need-mul-result-3
-mul-result-3 c = search needs
+mul-all-3 : tie.Need-mul-all-3
+mul-all-3 c = search needs
 
-add-result-3 : tie.Need-add-result-3
-add-result-3 c = search needs
+add-all-3 : tie.Need-add-all-3
+add-all-3 c = search needs
 
 array-read-wide-8 : tie.Need-array-read-wide-8
 array-read-wide-8 c = search needs
@@ -87,11 +87,11 @@ array-read-wide-8 c = search needs
 wide-requires-8 : tie.Need-wide-requires-8
 wide-requires-8 c κs = search needs
 
-mul-result-4 : tie.Need-mul-result-4
-mul-result-4 c = search needs
+mul-all-4 : tie.Need-mul-all-4
+mul-all-4 c = search needs
 
-add-result-4 : tie.Need-add-result-4
-add-result-4 c = search needs
+add-all-4 : tie.Need-add-all-4
+add-all-4 c = search needs
 
 returns : tie.Need-returns
 unfolding word
@@ -117,18 +117,18 @@ word-spec =
     add-low-3
     array-read-wide-5
     wide-requires-5
-    mul-result
-    add-result
+    mul-all
+    add-all
     array-read-wide-6
     wide-requires-6
-    mul-result-2
-    add-result-2
+    mul-all-2
+    add-all-2
     array-read-wide-7
     wide-requires-7
-    mul-result-3
-    add-result-3
+    mul-all-3
+    add-all-3
     array-read-wide-8
     wide-requires-8
-    mul-result-4
-    add-result-4
+    mul-all-4
+    add-all-4
     returns)

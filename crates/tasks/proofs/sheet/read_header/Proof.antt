@@ -1,18 +1,28 @@
 -- Each number is refused, or passes its rule and the next is read; the tasks are read with a count of at most 8. Assumes nothing.
 use Rattle.tasks.proofs.Fields.{field-read}
-use Rattle.tasks.specs.Sheet.{fromPolicy}
-use mathlib.Core.Path.{sym, _∙_}
+use Rattle.tasks.specs.Sheet.{fieldAt, fromPolicy}
+use Rattle.tasks.specs.declared.number.Number.the-variants.{Value}
+use mathlib.Core.Path.{_≡_, sym, _∙_}
 use native.Mathlib.Omega.{arith}
 use borrow.Author.Needs.{needs}
 use Rattle.tasks.proofs.sheet.read_header.Statement.{statement}
 use Rattle.tasks.proofs.sheet.read_header.Tie as tie
 
--- the places where the numbers before were read
-abbrev m-place : tie.After-n → tie.After-m
-m-place c = c .before .before .before .before
+-- the numbers that were read, each after the one before
+policy-read : (c : tie.After-policy) → fieldAt (c .before .before .before .before .args .s .now) (c .before .before .before .before .args .at) 0 3 4 ≡ Value (c .policy .given .0 .0) (c .policy .given .0 .1 .0)
+policy-read c = sym (c .before .before .read-field .ensures) ∙ c .policy .given .1
 
 abbrev policy-place : tie.After-m → tie.After-policy
 policy-place c = c .before .before .before .before
+
+m-read : (c : tie.After-m) → fieldAt (policy-place c .before .before .before .before .args .s .now) (policy-place c .policy .given .0 .1 .0) 1 8 5 ≡ Value (c .m .given .0 .0) (c .m .given .0 .1 .0)
+m-read c = sym (c .before .before .read-field2 .ensures) ∙ c .m .given .1
+
+abbrev m-place : tie.After-n → tie.After-m
+m-place c = c .before .before .before .before
+
+n-read : (c : tie.After-n) → fieldAt (policy-place (m-place c) .before .before .before .before .args .s .now) (m-place c .m .given .0 .1 .0) 1 8 6 ≡ Value (c .n .given .0 .0) (c .n .given .0 .1 .0)
+n-read c = sym (c .before .before .read-field3 .ensures) ∙ c .n .given .1
 
 read-field-requires : tie.Need-read-field-requires
 read-field-requires c κs = search needs
@@ -52,27 +62,19 @@ enum-known-n c = search needs
 
 cast-read-tasks : tie.Need-cast-read-tasks
 cast-read-tasks c =
-    let p = policy-place (m-place (c .before)) in
-    let h = field-read _ _ 0 3 4 (sym (p .before .before .read-field .ensures) ∙ p .policy .given .1) in
-    omega (arith, h .upto)
+    omega (arith, field-read _ _ 0 3 4 (policy-read (policy-place (m-place (c .before)))) .upto)
 
 cast-read-tasks-2 : tie.Need-cast-read-tasks-2
 cast-read-tasks-2 c =
-    let p = m-place (c .before) in
-    let h = field-read _ _ 1 8 5 (sym (p .before .before .read-field2 .ensures) ∙ p .m .given .1) in
-    omega (arith, h .upto)
+    omega (arith, field-read _ _ 1 8 5 (m-read (m-place (c .before))) .upto)
 
 cast-read-tasks-3 : tie.Need-cast-read-tasks-3
 cast-read-tasks-3 c =
-    let p = c .before in
-    let h = field-read _ _ 1 8 6 (sym (p .before .before .read-field3 .ensures) ∙ p .n .given .1) in
-    omega (arith, h .upto)
+    omega (arith, field-read _ _ 1 8 6 (n-read (c .before)) .upto)
 
 read-tasks-requires : tie.Need-read-tasks-requires
 read-tasks-requires c κs =
-    let p = c .before in
-    let h = field-read _ _ 1 8 6 (sym (p .before .before .read-field3 .ensures) ∙ p .n .given .1) in
-    omega (arith, h .upto)
+    omega (arith, field-read _ _ 1 8 6 (n-read (c .before)) .upto)
 
 returns : tie.Need-returns
 unfolding fromPolicy
@@ -85,32 +87,22 @@ returns-2 : tie.Need-returns-2
 unfolding fromPolicy
 returns-2 c =
     let r = c .before .before in
-    let p = r .before .before .before .before in
-    let e = sym (p .before .before .read-field .ensures) ∙ p .policy .given .1 in
     let f = sym (r .before .before .read-field2 .ensures) ∙ r .r2 .given .1 in
-    rw (e, f) (c .refused2 .ensures)
+    rw (policy-read (r .before .before .before .before), f) (c .refused2 .ensures)
 
 returns-3 : tie.Need-returns-3
 unfolding fromPolicy
 returns-3 c =
     let r = c .before .before in
     let m = r .before .before .before .before in
-    let p = policy-place m in
-    let e = sym (p .before .before .read-field .ensures) ∙ p .policy .given .1 in
-    let f = sym (m .before .before .read-field2 .ensures) ∙ m .m .given .1 in
     let g = sym (r .before .before .read-field3 .ensures) ∙ r .r3 .given .1 in
-    rw (e, f, g) (c .refused3 .ensures)
+    rw (policy-read (policy-place m), m-read m, g) (c .refused3 .ensures)
 
 returns-4 : tie.Need-returns-4
 unfolding fromPolicy
 returns-4 c =
     let n = c .before .before in
-    let m = m-place n in
-    let p = policy-place m in
-    let e = sym (p .before .before .read-field .ensures) ∙ p .policy .given .1 in
-    let f = sym (m .before .before .read-field2 .ensures) ∙ m .m .given .1 in
-    let g = sym (n .before .before .read-field3 .ensures) ∙ n .n .given .1 in
-    rw (e, f, g) (c .read-tasks .ensures)
+    rw (policy-read (policy-place (m-place n)), m-read (m-place n), n-read n) (c .read-tasks .ensures)
 
 pub read-header-spec : {M : Type 1} → statement M
 read-header-spec =
