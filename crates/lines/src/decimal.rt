@@ -1,6 +1,6 @@
 // Bytes, numbers in decimal, and lines of a word and a number, written at a place of an output.
 ghost use mathlib.Core.Path.{_≡_};
-ghost use Prim.Native.Nat.{_+_, _≤_, _<_};
+ghost use Prim.Native.Nat.{_+_, _≤_};
 ghost use mathlib.Core.List.{_++_};
 ghost use lib.ListN.{length};
 ghost use lib.Seq.{sets};
@@ -65,10 +65,4 @@ pub(crate) fn put_line(out: &mut [u8], at: usize, word: &[u8], x: usize) -> usiz
 {
     let next = put_word(out, at, word, x);
     put_bytes(out, next, b"\n")
-}
-
-pub(crate) fn wide(x: u8) -> usize
-    ensures { λ r. ⌜ (r ≡ x) × (r < 256) ⌝ }
-{
-    x as usize
 }

@@ -10,9 +10,9 @@ ghost use Rattle.lines.specs.Lines.{firstLine, maskLines, masksOf, lines
 use crate::decimal::decimal_len;
 use crate::decimal::put_line;
 use crate::decimal::put_word;
-use crate::decimal::wide;
 use search::SearchAnswer;
 use tasks::Writing;
+use tasks::wide;
 
 // The length of the first line.
 fn first_len(a: SearchAnswer) -> usize

@@ -25,7 +25,6 @@ pub use play::replay;
 pub use sheet::Reading;
 pub use sheet::Sheet;
 pub use sheet::read_sheet;
-pub use slack::tight;
 pub use state::State;
 pub use table::Table;
 pub use tick::TickAnswer;
@@ -35,6 +34,7 @@ pub use writer::write_sheet;
 
 // The inner interface, for the layers above: it takes any table and any words, and refuses nothing. `Table::ticker`, `State::words` and
 // `State::of_words` are of it.
+pub use slack::tight;
 pub use ticker::Prepared;
 pub use ticker::Ticker;
 pub use widths::wide;

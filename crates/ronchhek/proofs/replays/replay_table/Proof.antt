@@ -1,8 +1,9 @@
 -- Each exit is one of the ways of ReplayLaws. Assumes nothing.
 use mathlib.Core.Path.{_≡_, sym, ap, _∙_}
+use Rattle.tasks.specs.Answers.{replayAnswer}
 use Rattle.tasks.specs.Replay.{replayTick, outcomeTick}
 use Rattle.tasks.specs.declared.play.Replayed.{Replayed}
-use Rattle.tasks.proofs.Answers.{writing-is}
+use Rattle.tasks.proofs.Answers.{replay-is, writing-is}
 use Rattle.search.specs.Slot.{stateSpace}
 use Rattle.ronchhek.specs.Replays.{refusedAt}
 use Rattle.ronchhek.proofs.ReplayLaws.{not-written, written-room, long-list, list-refused, list-space, list-unwritten, list-played}
@@ -11,7 +12,10 @@ use borrow.Author.Needs.{needs}
 use Rattle.ronchhek.proofs.replays.replay_table.Statement.{statement}
 use Rattle.ronchhek.proofs.replays.replay_table.Tie as tie
 
--- the answer of the replay
+-- the replay and its answer
+is-replay : {r q : Replayed} {A : Type 0} → (replayAnswer r ≡ replayAnswer q) × (r .state ≡ q .state) × A → r ≡ q
+is-replay e = replay-is (e .0, e .1)
+
 told : {r q : Replayed} → r ≡ q → q .answer ≡ r .answer
 told e = ap (λ (x : Replayed). x .answer) (sym e)
 
@@ -34,7 +38,7 @@ refused-at-requires-2 : tie.Need-refused-at-requires-2
 unfolding replayTick
 refused-at-requires-2 c κs =
     let n : replayTick (c .before .before .before .before .replay .result .answer) ≡ c .before .answer .given .0 .1 .0 = ap replayTick (c .before .answer .given .1) in
-    omega (arith, c .before .before .before .before .replay .ensures .1, c .before .before .before .before .before .if1 .left)
+    omega (arith, c .before .before .before .before .replay .ensures .2, c .before .before .before .before .before .if1 .left)
 
 enum-known-answer-2 : tie.Need-enum-known-answer-2
 enum-known-answer-2 c = search needs
@@ -55,12 +59,12 @@ outcome-number-requires : tie.Need-outcome-number-requires
 unfolding replayTick
 outcome-number-requires c κs =
     let n : replayTick (c .before .before .before .before .before .before .before .before .before .before .replay .result .answer) ≡ outcomeTick (c .before .before .before .before .before .before .before .answer2 .given .0 .0) = ap replayTick (c .before .before .before .before .before .before .before .answer2 .given .1) in
-    omega (arith, c .before .before .before .before .before .before .before .before .before .before .replay .ensures .1, c .before .before .before .before .before .before .before .before .before .before .before .if1 .left)
+    omega (arith, c .before .before .before .before .before .before .before .before .before .before .replay .ensures .2, c .before .before .before .before .before .before .before .before .before .before .before .if1 .left)
 
 returns-2 : tie.Need-returns-2
 returns-2 c =
     let a = c .before .before .before .before .before .before .before .before .before .args in
-    let w = list-refused (a .t) (a .list .now) (a .state .now) (c .before .before .before .before .before .before .if1 .left) _ _ (told (c .before .before .before .before .before .replay .ensures .0) ∙ c .before .before .answer .given .1) in
+    let w = list-refused (a .t) (a .list .now) (a .state .now) (c .before .before .before .before .before .before .if1 .left) _ _ (told (is-replay (c .before .before .before .before .before .replay .ensures)) ∙ c .before .before .answer .given .1) in
     (c .refused-at2 .ensures ∙ w .0, w .1)
 
 same-length : tie.Need-same-length
@@ -69,7 +73,7 @@ same-length c = search needs
 returns-3 : tie.Need-returns-3
 returns-3 c =
     let a = c .before .before .before .before .before .before .before .before .before .before .before .before .before .before .before .before .args in
-    let is = c .before .before .before .before .before .before .before .before .before .before .before .before .replay .ensures .0 in
+    let is = is-replay (c .before .before .before .before .before .before .before .before .before .before .before .before .replay .ensures) in
     let short = c .before .before .before .before .before .before .before .before .before .before .before .before .before .if1 .left in
     let played = told is ∙ c .before .before .before .before .before .before .before .before .before .answer2 .given .1 in
     let none = not-written (a .state .now) (sym (c .before .before .r .given .1) ∙ writing-is (c .before .before .before .before .before .before .write-state .ensures .0)) in
@@ -81,7 +85,7 @@ same-length-2 c = search needs
 returns-4 : tie.Need-returns-4
 returns-4 c =
     let a = c .before .before .before .before .before .before .before .before .before .before .before .before .before .before .before .args in
-    let is = c .before .before .before .before .before .before .before .before .before .before .before .replay .ensures .0 in
+    let is = is-replay (c .before .before .before .before .before .before .before .before .before .before .before .replay .ensures) in
     let short = c .before .before .before .before .before .before .before .before .before .before .before .before .if1 .left in
     let played = told is ∙ c .before .before .before .before .before .before .before .before .answer2 .given .1 in
     let room = written-room (a .state .now) (sym (c .before .enum-told .given .1) ∙ writing-is (c .before .before .before .before .before .write-state .ensures .0)) in
