@@ -13,7 +13,7 @@ use Rattle.tasks.specs.declared.writer.Writing.the-variants as Writing
 use Rattle.tasks.proofs.Bools.{by-bool}
 use Rattle.search.specs.declared.run.SearchAnswer.{SearchAnswer}
 use Rattle.search.specs.declared.run.SearchAnswer.the-variants.{Safe, Unsafe, NoRoom, Refused}
-use Rattle.lines.specs.Lines.{decimal, line, unsafeWord, space, firstLine, maskLines, masksOf, linesOf, linesWriting, linesOut}
+use Rattle.lines.specs.Lines.{decimal, line, unsafeWord, space, firstLine, maskLines, masksGiven, linesOf, linesWriting, linesOut}
 use Rattle.lines.proofs.Digits.{decimal-byte}
 
 -- ---- lengths
@@ -57,9 +57,9 @@ masks-longer masks i h =
 -- ---- all lines
 
 module _ (a : SearchAnswer) (trace : List ℕ) where
-  pub lines-length : length (linesOf a trace) ≡ length (firstLine a) + length (maskLines (masksOf a trace))
+  pub lines-length : length (linesOf a trace) ≡ length (firstLine a) + length (maskLines (masksGiven a trace))
   unfolding linesOf
-  lines-length = length-append (firstLine a) (maskLines (masksOf a trace))
+  lines-length = length-append (firstLine a) (maskLines (masksGiven a trace))
 
   module _ (out : List ℕ) where
     -- the output is too short
@@ -118,8 +118,8 @@ masks-most (suc l) (m ∷ ms) byte =
     omega
     (arith, length-append (line [] m) (maskLines (take l ms)), line-length [] m, decimal-byte m (byte 0), masks-most l ms (λ i. byte (suc i)))
 
-given-most : (a : SearchAnswer) (trace : List ℕ) → ((i : ℕ) → getD trace i 0 < 256) → length (maskLines (masksOf a trace)) ≤ 4 * length trace
-unfolding masksOf maskLines
+given-most : (a : SearchAnswer) (trace : List ℕ) → ((i : ℕ) → getD trace i 0 < 256) → length (maskLines (masksGiven a trace)) ≤ 4 * length trace
+unfolding masksGiven maskLines
 given-most (Safe n) trace byte = omega arith
 given-most (Unsafe l n) trace byte = masks-most l trace byte
 given-most (NoRoom n) trace byte = omega arith

@@ -55,15 +55,15 @@ maskLines [] = []
 maskLines (mask ∷ masks) = line [] mask ++ maskLines masks
 
 -- the masks that an answer gives: under Unsafe the first L of the trace space
-unfoldable pub masksOf : SearchAnswer → List ℕ → List ℕ
-masksOf (Safe n) trace = []
-masksOf (Unsafe l n) trace = take l trace
-masksOf (NoRoom n) trace = []
-masksOf (Refused r) trace = []
+unfoldable pub masksGiven : SearchAnswer → List ℕ → List ℕ
+masksGiven (Safe n) trace = []
+masksGiven (Unsafe l n) trace = take l trace
+masksGiven (NoRoom n) trace = []
+masksGiven (Refused r) trace = []
 
 -- all lines of an answer
 unfoldable pub linesOf : SearchAnswer → List ℕ → List ℕ
-linesOf a trace = firstLine a ++ maskLines (masksOf a trace)
+linesOf a trace = firstLine a ++ maskLines (masksGiven a trace)
 
 -- ---- written to an output
 

@@ -6,7 +6,7 @@ ghost use lib.Dec.{leb};
 ghost use lib.ListN.{length, take};
 ghost use lib.Seq.{sets};
 ghost use Rattle.tasks.specs.Answers.{writingAnswer};
-ghost use Rattle.lines.specs.Lines.{firstLine, maskLines, masksOf, linesOf, linesWriting, linesOut};
+ghost use Rattle.lines.specs.Lines.{firstLine, maskLines, masksGiven, linesOf, linesWriting, linesOut};
 use crate::decimal::decimal_len;
 use crate::decimal::put_line;
 use crate::decimal::put_word;
@@ -75,7 +75,7 @@ fn put_masks(out: &mut [u8], from: usize, masks: &[u8]) -> usize
 
 // How many masks of a trace space of n bytes an answer gives.
 fn mask_count(a: SearchAnswer, n: usize) -> usize
-    ensures { λ r. ⌜ (r ≤ n) × ((trace : List ℕ) → length trace ≡ n → take r trace ≡ masksOf a trace) ⌝ }
+    ensures { λ r. ⌜ (r ≤ n) × ((trace : List ℕ) → length trace ≡ n → take r trace ≡ masksGiven a trace) ⌝ }
 {
     match a {
         SearchAnswer::Unsafe(l, _) => { if l < n { l } else { n } }

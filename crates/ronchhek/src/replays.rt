@@ -9,7 +9,7 @@ use tasks::ReplayAnswer;
 use tasks::Table;
 use tasks::Writing;
 
-// 2^48 and 2^56.
+// The units of a refusal's number, 2^48, and of a kind, 2^56.
 const NUMBER: u64 = 281474976710656;
 
 const KIND: u64 = 72057594037927936;

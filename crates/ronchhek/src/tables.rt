@@ -9,8 +9,8 @@ use tasks::Reading;
 use tasks::Table;
 use tasks::Writing;
 
-// 2^48, the unit of a kind.
-const KIND: u64 = 281474976710656;
+// 2^48: kind 1.
+const DONE: u64 = 281474976710656;
 
 // One number of each of eight tasks, the first at `at` and then every third byte.
 fn column(b: &[u8], at: usize) -> [u8; 8]
@@ -74,7 +74,7 @@ pub extern "C" fn ronchhek_read(sheet: &[u8], table: &mut [u8]) -> u64
                 return 12;
             }
             put_table(table, t);
-            KIND + 27
+            DONE + 27
         }
     }
 }
@@ -92,6 +92,6 @@ pub extern "C" fn ronchhek_write(table: &[u8], out: &mut [u8]) -> u64
     }
     match tasks::write_sheet(table_from(table), out) {
         Writing::Refused(r) => r as u64,
-        Writing::Written(n) => KIND + (n as u64),
+        Writing::Written(n) => DONE + (n as u64),
     }
 }

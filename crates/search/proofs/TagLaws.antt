@@ -10,7 +10,7 @@ use lib.Pow.{pow-pos}
 use borrow.Author.Tests.{eq-eqb}
 use Rattle.tasks.specs.Tick.{bit}
 use Rattle.tasks.proofs.Bools.{clash, or-left, or-right, not-no}
-use Rattle.tasks.proofs.Ticking.{mask-test}
+use Rattle.tasks.proofs.Bits.{mask-test}
 
 or-digit : (x y : ℕ) → x < 2 → y < 2 → eqb (bitOr x y) 1 ≡ (eqb x 1 || eqb y 1)
 or-digit zero zero h k = refl

@@ -58,7 +58,7 @@ pub record Room (w heads : List ℕ) (n k : ℕ) : Type 0 where
   pub fits : 24 * k ≤ length w
   pub indexed : Indexed w heads n
 
--- state s under a mask: the slots hold what it leads to; or slot n does now; or they are full, without it
+-- state u, to which slot i leads under mask m: the slots hold it; or slot n does now; or they are full, without it
 pub record Known (w w′ heads heads′ : List ℕ) (n : ℕ) (u : State) : Type 0 where
   pub held : Holds (stateAt w) n u
   pub same : w′ ≡ w

@@ -1,4 +1,4 @@
--- The legal masks of a state: the submasks of the mask of all tasks that may be released, in increasing order.
+-- Only the search's bookkeeping, no part of its claim. The legal masks of a state: the submasks of the mask of all tasks that may be released, in increasing order.
 use Prim.Native.Nat.{ℕ, _+_, _-_, _%_}
 use lib.Dec.{eqb}
 use lib.Bits.{bitAnd}

@@ -50,7 +50,7 @@ fn try_mask(
     Attempt::New
 }
 
-// Stores the successors of slot i under its legal masks that are new; n slots are filled before.
+// Stores the successors of slot i under its legal masks that are new; `from` slots are filled before.
 fn store_row(
     t: Table,
     ticker: Ticker,

@@ -22,7 +22,8 @@ use Rattle.tasks.proofs.Bools.{and-left, and-right, both}
 use Rattle.tasks.proofs.Fill.{eight-at}
 use Rattle.tasks.proofs.InWords.{gap-word}
 use Rattle.tasks.proofs.More.{Full}
-use Rattle.tasks.proofs.Ticking.{TableBytes, WordList, ticker-after}
+use Rattle.tasks.proofs.InWords.{TableBytes, WordList}
+use Rattle.tasks.proofs.Ticking.{ticker-after}
 
 -- ---- the bits of a byte
 

@@ -20,10 +20,11 @@ pub mod Legal
 pub mod Choice
 pub mod Place
 pub mod After
+pub mod Bits
+pub mod InWords
 pub mod Ticking
 pub mod Proper
 pub mod Late
-pub mod InWords
 pub mod More
 pub mod Free
 pub mod NoMiss

@@ -4,15 +4,12 @@ use mathlib.Core.Path.{_≡_, refl, sym, ap, ap₂, _∙_}
 use mathlib.Core.List.{List}
 use mathlib.Core.Bool.{Bool, true, false, not, _&&_}
 use native.Mathlib.Omega.{arith}
-use native.Mathlib.Nat.{pow-suc}
-use lib.Bits.{bitAnd, and-zero-r, and-mask, and-high}
+use lib.Bits.{bitAnd, and-zero-r, and-mask}
 use lib.Dec.{eqb, ltb}
-use lib.ListN.{length, getD}
-use lib.Pow.{pow-pos}
-use lib.Seq.{ext-getD}
+use lib.ListN.{getD}
 use mir.Syntax.{w8, w16}
 use mir.Val.{Fits}
-use borrow.Author.Tests.{le-ltb, ltb-true, eq-eqb, ne-eqb}
+use borrow.Author.Tests.{le-ltb, ltb-true}
 use Rattle.tasks.specs.Lists.{eight, pick}
 use Rattle.tasks.specs.State.{start, notPreempted, ready, started, keeps}
 use Rattle.tasks.specs.Tick.{bit, released, runs, chosen, ranAt, fallen, ran, after}
@@ -24,79 +21,11 @@ use Rattle.tasks.specs.declared.table.Table.{Table}
 use Rattle.tasks.proofs.Bools.{by-bool, and-left}
 use Rattle.tasks.proofs.Fill.{eight-at, eight-same}
 use Rattle.tasks.proofs.Place.{Bytes, taken-runs}
+use Rattle.tasks.proofs.Bits.{mask-test}
+use Rattle.tasks.proofs.InWords.{TableBytes, StateBytes, WordList, state-same, words-at, words-fit, words-state}
 use Rattle.tasks.proofs.After.{work-on, work-off, gap-on, gap-off}
 
--- the table's numbers are bytes
-pub record TableBytes (t : Table) : Type 0 where
-  pub work : (i : ℕ) → i < 8 → Fits w8 (getD (t .work) i 0)
-  pub deadline : (i : ℕ) → i < 8 → Fits w8 (getD (t .deadline) i 0)
-  pub gap : (i : ℕ) → i < 8 → Fits w8 (getD (t .gap) i 0)
-
--- the state's numbers are bytes, eight of each
-pub record StateBytes (s : State) : Type 0 where
-  pub c-length : length (s .c) ≡ 8
-  pub p-length : length (s .p) ≡ 8
-  pub c : (i : ℕ) → i < 8 → Fits w8 (getD (s .c) i 0)
-  pub p : (i : ℕ) → i < 8 → Fits w8 (getD (s .p) i 0)
-
--- the words are of two bytes
-pub record WordList (v : List ℕ) : Type 0 where
-  pub word : (i : ℕ) → i < 8 → Fits w16 (getD v i 0)
-
--- ---- states in words
-
-low : (c p : ℕ) → c < 256 → (c + 256 * p) % 256 ≡ c
-low c p h = omega arith
-
-high : (c p : ℕ) → c < 256 → (c + 256 * p) / 256 ≡ p
-high c p h = omega arith
-
-state-same : {s u : State} → s .c ≡ u .c → s .p ≡ u .p → s ≡ u
-state-same e h = λ x. record { c = e x; p = h x }
-
--- LAW: a word of a state
-pub words-at : (s : State) (i : ℕ) → i < 8 → getD (wordsOf s) i 0 ≡ getD (s .c) i 0 + 256 * getD (s .p) i 0
-unfolding wordsOf
-words-at s i h = eight-at 0 (λ i. getD (s .c) i 0 + 256 * getD (s .p) i 0) i h
-
--- LAW: the words have two bytes
-pub words-fit : (s : State) → StateBytes s → WordList (wordsOf s)
-words-fit s b = record { word = λ i h. rw (words-at s i h) (record { fits = omega (arith, b .c i h, b .p i h) }) }
-
--- LAW: the state of a state's words is the state
-pub words-state : (s : State) → StateBytes s → stateOf (wordsOf s) ≡ s
-unfolding stateOf
-words-state s b =
-    state-same
-    (ext-getD 0 (eight (λ i. getD (wordsOf s) i 0 % 256)) (s .c) (sym (b .c-length)) (λ i h. c-same i (omega arith)))
-    (ext-getD 0 (eight (λ i. getD (wordsOf s) i 0 / 256)) (s .p) (sym (b .p-length)) (λ i h. p-same i (omega arith)))
-  where
-    c-same : (i : ℕ) → i < 8 → getD (eight (λ i. getD (wordsOf s) i 0 % 256)) i 0 ≡ getD (s .c) i 0
-    c-same i h =
-        eight-at 0 (λ i. getD (wordsOf s) i 0 % 256) i h
-        ∙ ap (λ w. w % 256) (words-at s i h)
-        ∙ low (getD (s .c) i 0) (getD (s .p) i 0) (omega (arith, b .c i h))
-
-    p-same : (i : ℕ) → i < 8 → getD (eight (λ i. getD (wordsOf s) i 0 / 256)) i 0 ≡ getD (s .p) i 0
-    p-same i h =
-        eight-at 0 (λ i. getD (wordsOf s) i 0 / 256) i h
-        ∙ ap (λ w. w / 256) (words-at s i h)
-        ∙ high (getD (s .c) i 0) (getD (s .p) i 0) (omega (arith, b .c i h))
-
 -- ---- a mask's bits
-
-power-half : (i : ℕ) → 2 ^ (1 + i) - 2 ^ i ≡ 2 ^ i
-power-half i = let e : 2 ^ (1 + i) ≡ 2 ^ suc i = ap (λ k. 2 ^ k) (omega arith) in omega (arith, e, pow-suc 2 i)
-
-digit-test : (d w : ℕ) → d < 2 → 0 < w → eqb (d * w) 0 ≡ not (eqb d 1)
-digit-test zero w h k = eq-eqb (0 * w) 0 (omega arith)
-digit-test (suc zero) w h k = ne-eqb (1 * w) 0 (λ e. omega arith)
-digit-test (suc (suc d)) w h k = absurd (omega arith)
-
-pub mask-test : (mask i : ℕ) → eqb (bitAnd mask (2 ^ i)) 0 ≡ not (bit mask i)
-mask-test mask i =
-    ap (λ x. eqb x 0) (ap (bitAnd mask) (sym (power-half i)) ∙ and-high mask 1 i)
-    ∙ digit-test (mask / 2 ^ i % 2) (2 ^ i) (omega arith) (pow-pos i)
 
 -- every bit of 255 is set
 full : (i : ℕ) → i < 8 → bit 255 i ≡ true

@@ -1,5 +1,5 @@
 -- The choice by one number a task, its place: the smaller goes first. No part of the paper's model: the contracts of
--- the private functions of src/places.rt cite it, and proofs/Place.antt shows that it gives the choice of Tick.antt.
+-- private functions in src/places.rt and src/ticker.rt cite it, and proofs/Place.antt shows that it gives the choice of Tick.antt.
 use Prim.Native.Nat.{ℕ, _+_, _-_, _*_}
 use mathlib.Core.List.{List}
 use mathlib.Core.Bool.{Bool, _&&_, _||_}

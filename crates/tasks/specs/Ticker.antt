@@ -1,5 +1,5 @@
 -- Many ticks with one table, on states in words. No part of the paper's model: the contracts of src/ticker.rt cite it, and
--- proofs/Ticking.antt shows that it gives the state after a tick of Tick.antt.
+-- proofs/Ticking.antt and proofs/Free.antt show that it gives the state after a tick of Tick.antt and the mask of Masks.antt.
 use Prim.Native.Nat.{ℕ, _+_, _-_, _*_, _/_, _%_, _^_}
 use mathlib.Core.List.{List}
 use mathlib.Core.Bool.{false}

@@ -14,7 +14,8 @@ fn tight_job(deadline: u8, gap: u8, p: u8, c: u8) -> bool
     (0 < c) & (slack_of(deadline, gap, p, c) < 1)
 }
 
-// Whether some job of the state in the words has slack 0 or less, or would have it if it were released now. Where none has, no mask misses.
+// Whether some job of the state in the words has slack 0 or less, or would have it if it were released now. From a
+// proper state of a valid table in which none has, no legal mask misses.
 pub fn tight(t: Table, v: [u16; 8]) -> bool
     ensures { λ r. ⌜ r ≡ tight t (stateOf v) ⌝ }
 {

@@ -3,7 +3,8 @@ use mathlib.Core.Path.{_≡_, sym, ap}
 use borrow.Author.Tests.{lt-ltb}
 use Rattle.ticks.specs.Ticks.{figure, sum, pairs, ticksSum}
 use Rattle.ticks.proofs.Sums.{pairs-room, sum-start, sum-turn, sum-end}
-use Rattle.tasks.proofs.Ticking.{ticker-state, TableBytes, StateBytes}
+use Rattle.tasks.proofs.InWords.{TableBytes, StateBytes}
+use Rattle.tasks.proofs.Ticking.{ticker-state}
 use native.Mathlib.Omega.{arith}
 use borrow.Author.Needs.{needs}
 use Rattle.ticks.proofs.ticks.Statement.{statement}

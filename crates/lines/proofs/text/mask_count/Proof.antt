@@ -1,7 +1,7 @@
 -- Under Unsafe all masks of the trace space where L is no less than its length. Assumes nothing.
 use mathlib.Core.Path.{_≡_, sym, _∙_}
 use lib.Seq.{take-all}
-use Rattle.lines.specs.Lines.{masksOf}
+use Rattle.lines.specs.Lines.{masksGiven}
 use native.Mathlib.Omega.{arith}
 use borrow.Author.Needs.{needs}
 use Rattle.lines.proofs.text.mask_count.Statement.{statement}
@@ -20,25 +20,25 @@ enum-told-3 : tie.Need-enum-told-3
 enum-told-3 c = search needs
 
 returns : tie.Need-returns
-unfolding masksOf
+unfolding masksGiven
 returns c = (omega arith, λ trace e. rw (c .before .before .a .given .1))
 
 returns-2 : tie.Need-returns-2
-unfolding masksOf
+unfolding masksGiven
 returns-2 c =
     let left = c .if1 .left in
     (omega arith, λ trace e. rw (c .before .before .a .given .1) (take-all (c .before .before .before .before .args .n) trace (omega arith) ∙ sym (take-all (c .before .before .a .given .0 .0) trace (omega arith))))
 
 returns-3 : tie.Need-returns-3
-unfolding masksOf
+unfolding masksGiven
 returns-3 c = (omega arith, λ trace e. rw (c .enum-told .given .1))
 
 returns-4 : tie.Need-returns-4
-unfolding masksOf
+unfolding masksGiven
 returns-4 c = (omega arith, λ trace e. rw (c .enum-told2 .given .1))
 
 returns-5 : tie.Need-returns-5
-unfolding masksOf
+unfolding masksGiven
 returns-5 c = (omega arith, λ trace e. rw (c .enum-told3 .given .1))
 
 pub mask-count-spec : {M : Type 1} → statement M

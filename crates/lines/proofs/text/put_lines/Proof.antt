@@ -10,7 +10,7 @@ use borrow.Author.Tests.{leb-true, leb-false}
 use Rattle.tasks.specs.declared.writer.Writing.the-variants.{Written}
 use Rattle.tasks.proofs.Stores.{Storing, storing-start, storing-step, storing-left, storing-last}
 use Rattle.search.specs.declared.run.SearchAnswer.{SearchAnswer}
-use Rattle.lines.specs.Lines.{firstLine, maskLines, masksOf, linesOf}
+use Rattle.lines.specs.Lines.{firstLine, maskLines, masksGiven, linesOf}
 use Rattle.lines.proofs.LineLaws.{lines-length, lines-short, lines-fit, lines-stored, lines-most}
 use native.Mathlib.Omega.{arith}
 use borrow.Author.Needs.{needs}
@@ -26,7 +26,7 @@ begun a masks out {n} e h f =
     (omega (arith, leb-true (length (maskLines masks)) (length out - n) f, length-append (firstLine a) (maskLines masks)))
 
 -- they are all lines of the answer
-whole : (a : SearchAnswer) (trace : List ℕ) (k : ℕ) → take k trace ≡ masksOf a trace → firstLine a ++ maskLines (take k trace) ≡ linesOf a trace
+whole : (a : SearchAnswer) (trace : List ℕ) (k : ℕ) → take k trace ≡ masksGiven a trace → firstLine a ++ maskLines (take k trace) ≡ linesOf a trace
 unfolding linesOf
 whole a trace k e = ap (λ masks. firstLine a ++ maskLines masks) e
 

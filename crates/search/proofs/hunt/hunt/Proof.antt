@@ -6,7 +6,7 @@ use Rattle.tasks.specs.Tick.{after, missed}
 use Rattle.tasks.specs.Masks.{freeMask}
 use Rattle.tasks.specs.Ticker.{tickedBy}
 use Rattle.tasks.specs.Words.{stateOf}
-use Rattle.tasks.proofs.Ticking.{TableBytes, WordList}
+use Rattle.tasks.proofs.InWords.{TableBytes, WordList}
 use Rattle.tasks.proofs.Free.{ticks, frees}
 use Rattle.levels.specs.Levels.{Calm, Hunting}
 use Rattle.levels.proofs.Explore.{hunt-start}

@@ -2,7 +2,7 @@
 use mathlib.Core.Path.{_≡_, sym, ap, _∙_}
 use Rattle.tasks.specs.Tick.{after, missed}
 use Rattle.tasks.specs.Words.{stateOf}
-use Rattle.tasks.proofs.Ticking.{TableBytes, WordList}
+use Rattle.tasks.proofs.InWords.{TableBytes, WordList}
 use Rattle.tasks.proofs.Free.{ticks, frees}
 use Rattle.search.proofs.HuntLaws.{calm-tight}
 use borrow.Author.Needs.{needs}

@@ -1,7 +1,7 @@
 -- A space that is too short, or the state's words at its front. Assumes nothing.
 use Rattle.tasks.specs.Answers.{writingAnswer}
 use Rattle.tasks.specs.Words.{stateOf}
-use Rattle.tasks.proofs.Ticking.{StateBytes, words-state}
+use Rattle.tasks.proofs.InWords.{StateBytes, words-state}
 use Rattle.search.specs.Slot.{stateBytes}
 use Rattle.search.proofs.SlotLaws.{space-short, space-room}
 use lib.Seq.{sets}

@@ -7,7 +7,7 @@ use Rattle.tasks.specs.Tick.{after}
 use Rattle.tasks.specs.Masks.{freeMask}
 use Rattle.tasks.specs.Ticker.{tickerOf}
 use Rattle.tasks.specs.declared.table.Table.{Table}
-use Rattle.tasks.proofs.Ticking.{TableBytes, WordList}
+use Rattle.tasks.proofs.InWords.{TableBytes, WordList}
 use Rattle.tasks.proofs.Free.{ticks, frees}
 use Rattle.search.specs.Keeping.{RowReady}
 use Rattle.search.specs.Slot.{stateAt}
