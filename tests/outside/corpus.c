@@ -94,6 +94,8 @@ int main(int argc, char **argv)
         free(sheet);
         lines++;
     }
+    if (!feof(cases))
+        fail(path, "a line that cannot be read");
     fclose(cases);
     printf("corpus: %d lines as expected\n", lines);
     return lines == 0;

@@ -39,8 +39,10 @@ static size_t used(struct job *job)
     static uint8_t *stack;
     pthread_attr_t attributes;
     pthread_t thread;
-    if (!stack)
-        stack = aligned_alloc(4096, STACK);
+    if (!stack && !(stack = aligned_alloc(4096, STACK))) {
+        fputs("stack: no memory\n", stderr);
+        exit(2);
+    }
     memset(stack, PATTERN, STACK);
     if (pthread_attr_init(&attributes) || pthread_attr_setstack(&attributes, stack, STACK)
         || pthread_create(&thread, &attributes, run, job) || pthread_join(thread, NULL)) {
@@ -58,6 +60,10 @@ int main(void)
     static const size_t slots[] = {1, 2730, 16384, 16385, 65536, 262144, 262145, 1000000};
     uint8_t *work = malloc((size_t)RONCHHEK_MOST_SLOTS * RONCHHEK_SLOT_BYTES);
     uint8_t *trace = malloc(RONCHHEK_MOST_SLOTS);
+    if (!work || !trace) {
+        fputs("stack: no memory\n", stderr);
+        return 2;
+    }
     struct job job = {NOTHING, work, trace, 0};
     size_t thread = used(&job); /* what a thread itself uses */
     int status = 0;

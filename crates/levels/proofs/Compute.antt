@@ -16,10 +16,10 @@ use Rattle.levels.specs.Verdict.{System, Tick, Answer, Reaches, Holds, V
 use Rattle.levels.specs.Verdict.Tick.{Next, Missed, Refused}
 use Rattle.levels.specs.Verdict.Answer.{Unsafe, Safe, NoRoom}
 use Rattle.levels.specs.Levels.{Before, Calm, Hunted, Covered, Storing}
-use Rattle.levels.specs.Compute.{Node, Trial, Hunt, Level, Outcome, trialsOf, trials, huntBy, hunt, orElse, known, addBy, addState, add, store, storedBy, huntedBy, search, outcome}
+use Rattle.levels.specs.Compute.{Node, Trial, Hunt, NextLevel, Computed, trialsOf, trials, huntBy, hunt, orElse, known, addBy, addState, add, store, storedBy, huntedBy, search, computed}
 use Rattle.levels.specs.Compute.Hunt.{Miss, Clear}
-use Rattle.levels.specs.Compute.Level.{Upto, Full}
-use Rattle.levels.specs.Compute.Outcome.{Answered, OutOfFuel}
+use Rattle.levels.specs.Compute.NextLevel.{Upto, Full}
+use Rattle.levels.specs.Compute.Computed.{Answered, OutOfFuel}
 use Rattle.levels.proofs.Numbered.{holds-more}
 use Rattle.levels.proofs.Replay.{reach-snoc}
 use Rattle.levels.proofs.Explore.{Explored, start-law, hunt-law, open-law, tried-law, push-law, level-law}
@@ -233,7 +233,7 @@ module _ (sys : System) (same : sys .State → sys .State → Bool) (masks : Lis
 
   module _ (K d lo : ℕ) (old : List (Node State Mask)) where
     -- what becomes of the new nodes
-    abbrev Added : List (Node State Mask) → Trial State Mask → Level State Mask → Type 0
+    abbrev Added : List (Node State Mask) → Trial State Mask → NextLevel State Mask → Type 0
     Added new r (Upto new′) = Fill sys K d lo old new′ × Done sys (old ++ new′) r × ((s : State) → In sys (old ++ new) s → In sys (old ++ new′) s)
     Added new r Full = (trace : List Mask) → Verdict sys K (NoRoom K) trace
 
@@ -282,7 +282,7 @@ module _ (sys : System) (same : sys .State → sys .State → Bool) (masks : Lis
                 room-law sys (rw z at (x .storing)) (y .place) (y .mask) (y .below) t step-here (rw z at (known-no (old ++ new) t k))
 
     -- .. by all trials of a level
-    abbrev Filled : List (Node State Mask) → List (Trial State Mask) → Level State Mask → Type 0
+    abbrev Filled : List (Node State Mask) → List (Trial State Mask) → NextLevel State Mask → Type 0
     Filled new rs (Upto new′) = Fill sys K d lo old new′ × ((r : Trial State Mask) → List·Memᴰ r rs → Done sys (old ++ new′) r)
         × ((s : State) → In sys (old ++ new) s → In sys (old ++ new′) s)
     Filled new rs Full = (trace : List Mask) → Verdict sys K (NoRoom K) trace
@@ -294,11 +294,11 @@ module _ (sys : System) (same : sys .State → sys .State → Bool) (masks : Lis
     store-law (r ∷ rs) new x sound = go (store-law rs) (addState same K old new (r .path) (r .answer)) (added-law new r x (sound r (List·Memᴰ·head refl)))
       where
         go : ((new : List (Node State Mask)) → Fill sys K d lo old new → ((q : Trial State Mask) → List·Memᴰ q rs → Sound sys d old q) → Filled new rs (store same K old (Upto new) rs))
-            → (l : Level State Mask) → Added new r l → Filled new (r ∷ rs) (store same K old l rs)
+            → (l : NextLevel State Mask) → Added new r l → Filled new (r ∷ rs) (store same K old l rs)
         go ih Full y = rw (store-full same K old rs) y
         go ih (Upto new₁) y = then (store same K old (Upto new₁) rs) (ih new₁ (y .0) (λ q h. sound q (List·Memᴰ·tail h)))
           where
-            then : (l : Level State Mask) → Filled new₁ rs l → Filled new (r ∷ rs) l
+            then : (l : NextLevel State Mask) → Filled new₁ rs l → Filled new (r ∷ rs) l
             then Full z = z
             then (Upto new₂) z = (
               z .0,
@@ -360,11 +360,11 @@ module _ (sys : System) (same : sys .State → sys .State → Bool) (masks : Lis
       }
 
     -- the verdict, or no answer after b levels and nodes
-    abbrev Right : ℕ → Outcome Mask → Type 0
+    abbrev Right : ℕ → Computed Mask → Type 0
     Right b (Answered a trace) = Verdict sys K a trace
     Right b OutOfFuel = b ≤ K
 
-    right-more : {b c : ℕ} → b ≤ c → (o : Outcome Mask) → Right c o → Right b o
+    right-more : {b c : ℕ} → b ≤ c → (o : Computed Mask) → Right c o → Right b o
     right-more h (Answered a trace) x = x
     right-more h OutOfFuel x = omega arith
 
@@ -380,26 +380,26 @@ module _ (sys : System) (same : sys .State → sys .State → Bool) (masks : Lis
         go ih (Miss l) e = miss-found x l e
         go ih Clear e = then (store same K old (Upto []) (trials step masks level)) (store-law K d (length (x .before)) old (trials step masks level) [] (filling x e) (sound x))
           where
-            then : (l : Level State Mask) → Filled K d (length (x .before)) old [] (trials step masks level) l
+            then : (l : NextLevel State Mask) → Filled K d (length (x .before)) old [] (trials step masks level) l
                 → Right (suc fuel + length old) (storedBy K old l (λ new. search sys same masks fuel K (suc d) (old ++ new) new))
             then Full y = y []
             then (Upto []) y = safe-found x (y .0) (y .1) []
             then (Upto (n ∷ ns)) y = right-more (rw length-append (omega arith)) (search sys same masks fuel K (suc d) (old ++ n ∷ ns) (n ∷ ns)) (ih (n ∷ ns) (ready-next x (n ∷ ns) (y .0) (y .1)))
 
     -- the computation's answer is the verdict
-    pub outcome-right : 1 ≤ K → (fuel : ℕ) (a : Answer) (trace : List Mask) → outcome sys same masks fuel K ≡ Answered a trace → Verdict sys K a trace
-    unfolding outcome
-    outcome-right h fuel a trace e = rw e at (search-right fuel (ready-start sys K h))
+    pub computed-right : 1 ≤ K → (fuel : ℕ) (a : Answer) (trace : List Mask) → computed sys same masks fuel K ≡ Answered a trace → Verdict sys K a trace
+    unfolding computed
+    computed-right h fuel a trace e = rw e at (search-right fuel (ready-start sys K h))
 
     -- fuel for K levels is enough
-    pub outcome-ends : 1 ≤ K → (fuel : ℕ) → K ≤ fuel → outcome sys same masks fuel K ≡ OutOfFuel → ⊥
-    unfolding outcome
-    outcome-ends h fuel l e = let z : fuel + 1 ≤ K = (rw e at (search-right fuel (ready-start sys K h))) in omega arith
+    pub computed-ends : 1 ≤ K → (fuel : ℕ) → K ≤ fuel → computed sys same masks fuel K ≡ OutOfFuel → ⊥
+    unfolding computed
+    computed-ends h fuel l e = let z : fuel + 1 ≤ K = (rw e at (search-right fuel (ready-start sys K h))) in omega arith
 
     -- so for every K there is a verdict
     pub verdict-exists : 1 ≤ K → (a : Answer) × (trace : List Mask) × Verdict sys K a trace
-    verdict-exists h = go (outcome sys same masks K K) refl
+    verdict-exists h = go (computed sys same masks K K) refl
       where
-        go : (o : Outcome Mask) → outcome sys same masks K K ≡ o → (a : Answer) × (trace : List Mask) × Verdict sys K a trace
-        go (Answered a trace) e = (a, trace, outcome-right h K a trace e)
-        go OutOfFuel e = absurd (outcome-ends h K (omega arith) e)
+        go : (o : Computed Mask) → computed sys same masks K K ≡ o → (a : Answer) × (trace : List Mask) × Verdict sys K a trace
+        go (Answered a trace) e = (a, trace, computed-right h K a trace e)
+        go OutOfFuel e = absurd (computed-ends h K (omega arith) e)

@@ -12,10 +12,10 @@ use borrow.Author.Tests.{eqb-true, eqb-false, le-ltb}
 use Rattle.levels.specs.Verdict.{System, Tick, Verdict}
 use Rattle.levels.specs.Verdict.Tick.{Next, Missed, Refused}
 use Rattle.levels.specs.Verdict.Answer.{Unsafe, Safe, NoRoom}
-use Rattle.levels.specs.Compute.{Outcome, outcome}
-use Rattle.levels.specs.Compute.Outcome.{Answered, OutOfFuel}
+use Rattle.levels.specs.Compute.{Computed, computed}
+use Rattle.levels.specs.Compute.Computed.{Answered, OutOfFuel}
 use Rattle.levels.proofs.Legal.{FinitelyBranching}
-use Rattle.levels.proofs.Compute.{outcome-right}
+use Rattle.levels.proofs.Compute.{computed-right}
 
 abbrev pick : {A : Type 0} → Bool → A → A → A
 pick true a b = a
@@ -29,13 +29,13 @@ counter limit = record {
   step = λ s m. pick (ltb m 3) (pick (ltb limit ((s + m) % 6)) (Missed ((s + m) % 6)) (Next ((s + m) % 6))) Refused;
 }
 
-abbrev run : ℕ → ℕ → ℕ → Outcome ℕ
-run limit fuel K = outcome (counter limit) eqb (0 ∷ 1 ∷ 2 ∷ []) fuel K
+abbrev run : ℕ → ℕ → ℕ → Computed ℕ
+run limit fuel K = computed (counter limit) eqb (0 ∷ 1 ∷ 2 ∷ []) fuel K
 
 -- limit 5 is never passed; 4 is first passed by the third tick, when 0 to 4 were reached
 runs : run 5 9 6 ∷ run 5 9 5 ∷ run 5 3 6 ∷ run 4 9 5 ∷ run 4 9 4 ∷ run 0 1 1 ∷ []
     ≡ Answered (Safe 6) [] ∷ Answered (NoRoom 5) [] ∷ OutOfFuel ∷ Answered (Unsafe 3 5) (1 ∷ 2 ∷ 2 ∷ []) ∷ Answered (NoRoom 4) [] ∷ Answered (Unsafe 1 1) (1 ∷ []) ∷ []
-unfolding outcome
+unfolding computed
 runs = refl
 
 branching : (limit : ℕ) → FinitelyBranching (counter limit) eqb (0 ∷ 1 ∷ 2 ∷ [])
@@ -49,5 +49,5 @@ branching limit = record { equal = eqb-true; different = eqb-false; others = oth
 
 -- the verdict of the counter with limit 4 in five slots: adding 1, 2 and 2 passes it
 verdict : Verdict (counter 4) 5 (Unsafe 3 5) (1 ∷ 2 ∷ 2 ∷ [])
-unfolding outcome
-verdict = outcome-right (counter 4) eqb (0 ∷ 1 ∷ 2 ∷ []) (branching 4) 5 (omega arith) 9 (Unsafe 3 5) (1 ∷ 2 ∷ 2 ∷ []) refl
+unfolding computed
+verdict = computed-right (counter 4) eqb (0 ∷ 1 ∷ 2 ∷ []) (branching 4) 5 (omega arith) 9 (Unsafe 3 5) (1 ∷ 2 ∷ 2 ∷ []) refl

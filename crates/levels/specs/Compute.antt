@@ -24,14 +24,14 @@ pub data Hunt (M : Type 0) : Type 0 where
   Clear : Hunt M
 
 -- the new nodes of a level, or no room for one
-pub data Level (S M : Type 0) : Type 0 where
-  Upto : List (Node S M) → Level S M
-  Full : Level S M
+pub data NextLevel (S M : Type 0) : Type 0 where
+  Upto : List (Node S M) → NextLevel S M
+  Full : NextLevel S M
 
 -- what the computation says: an answer, under Unsafe with the masks; or it was given too few levels
-pub data Outcome (M : Type 0) : Type 0 where
-  Answered : Answer → List M → Outcome M
-  OutOfFuel : Outcome M
+pub data Computed (M : Type 0) : Type 0 where
+  Answered : Answer → List M → Computed M
+  OutOfFuel : Computed M
 
 -- the trials of a node under some masks
 unfoldable pub trialsOf : {S M : Type 0} → (S → M → Tick S) → Node S M → List M → List (Trial S M)
@@ -63,41 +63,41 @@ known same [] s = false
 known same (x ∷ xs) s = orElse (same (x .state) s) (known same xs s)
 
 -- the new nodes and one more, where it is not known, if there is room for it
-abbrev pub fitIn : {S M : Type 0} → Bool → List (Node S M) → Node S M → Level S M
+abbrev pub fitIn : {S M : Type 0} → Bool → List (Node S M) → Node S M → NextLevel S M
 fitIn true new x = Upto (new ++ x ∷ [])
 fitIn false new x = Full
 
-abbrev pub addBy : {S M : Type 0} → Bool → Bool → List (Node S M) → Node S M → Level S M
+abbrev pub addBy : {S M : Type 0} → Bool → Bool → List (Node S M) → Node S M → NextLevel S M
 addBy true room new x = Upto new
 addBy false room new x = fitIn room new x
 
 -- a trial's state among the nodes of the levels so far, old, and the new ones
-abbrev pub addState : {S M : Type 0} → (S → S → Bool) → ℕ → List (Node S M) → List (Node S M) → List M → Tick S → Level S M
+abbrev pub addState : {S M : Type 0} → (S → S → Bool) → ℕ → List (Node S M) → List (Node S M) → List M → Tick S → NextLevel S M
 addState same K old new l (Next t) = addBy (known same (old ++ new) t) (ltb (length (old ++ new)) K) new (record { state = t; path = l })
 addState same K old new l (Missed t) = Upto new
 addState same K old new l Refused = Upto new
 
-abbrev pub add : {S M : Type 0} → (S → S → Bool) → ℕ → List (Node S M) → Level S M → Trial S M → Level S M
+abbrev pub add : {S M : Type 0} → (S → S → Bool) → ℕ → List (Node S M) → NextLevel S M → Trial S M → NextLevel S M
 add same K old (Upto new) r = addState same K old new (r .path) (r .answer)
 add same K old Full r = Full
 
-unfoldable pub store : {S M : Type 0} → (S → S → Bool) → ℕ → List (Node S M) → Level S M → List (Trial S M) → Level S M
+unfoldable pub store : {S M : Type 0} → (S → S → Bool) → ℕ → List (Node S M) → NextLevel S M → List (Trial S M) → NextLevel S M
 store same K old new [] = new
 store same K old new (r ∷ rs) = store same K old (add same K old new r) rs
 
 -- the answer at a level: a miss; no room; nothing new; or what the next level answers
-abbrev pub storedBy : {S M : Type 0} → ℕ → List (Node S M) → Level S M → (List (Node S M) → Outcome M) → Outcome M
+abbrev pub storedBy : {S M : Type 0} → ℕ → List (Node S M) → NextLevel S M → (List (Node S M) → Computed M) → Computed M
 storedBy K old Full go = Answered (NoRoom K) []
 storedBy K old (Upto []) go = Answered (Safe (length old)) []
 storedBy K old (Upto (x ∷ xs)) go = go (x ∷ xs)
 
-abbrev pub huntedBy : {S M : Type 0} → ℕ → ℕ → List (Node S M) → Hunt M → Level S M → (List (Node S M) → Outcome M) → Outcome M
+abbrev pub huntedBy : {S M : Type 0} → ℕ → ℕ → List (Node S M) → Hunt M → NextLevel S M → (List (Node S M) → Computed M) → Computed M
 huntedBy K d old (Miss l) new go = Answered (Unsafe (suc d) (length old)) l
 huntedBy K d old Clear new go = storedBy K old new go
 
 module _ (sys : System) (same : sys .State → sys .State → Bool) (masks : List (sys .Mask)) where
   -- from level d, whose nodes are level and which with those before are old, with fuel for some levels
-  unfoldable pub search : ℕ → ℕ → ℕ → List (Node (sys .State) (sys .Mask)) → List (Node (sys .State) (sys .Mask)) → Outcome (sys .Mask)
+  unfoldable pub search : ℕ → ℕ → ℕ → List (Node (sys .State) (sys .Mask)) → List (Node (sys .State) (sys .Mask)) → Computed (sys .Mask)
   unfolding trials trialsOf hunt known store
   search zero K d old level = OutOfFuel
   search (suc fuel) K d old level =
@@ -105,8 +105,8 @@ module _ (sys : System) (same : sys .State → sys .State → Bool) (masks : Lis
       huntedBy K d old (hunt rs) (store same K old (Upto []) rs) (λ new. search fuel K (suc d) (old ++ new) new)
 
   -- the search with K slots
-  unfoldable pub outcome : ℕ → ℕ → Outcome (sys .Mask)
+  unfoldable pub computed : ℕ → ℕ → Computed (sys .Mask)
   unfolding search
-  outcome fuel K =
+  computed fuel K =
       let first : List (Node (sys .State) (sys .Mask)) = record { state = sys .start; path = [] } ∷ [] in
       search fuel K 0 first first

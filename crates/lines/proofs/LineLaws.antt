@@ -13,7 +13,7 @@ use Rattle.tasks.specs.declared.writer.Writing.the-variants as Writing
 use Rattle.tasks.proofs.Bools.{by-bool}
 use Rattle.search.specs.declared.run.SearchAnswer.{SearchAnswer}
 use Rattle.search.specs.declared.run.SearchAnswer.the-variants.{Safe, Unsafe, NoRoom, Refused}
-use Rattle.lines.specs.Lines.{decimal, line, unsafeWord, space, firstLine, maskLines, masksGiven, linesOf, linesWriting, linesOut}
+use Rattle.lines.specs.Lines.{decimal, line, unsafeWord, blank, firstLine, maskLines, masksGiven, linesOf, linesWriting, linesOut}
 use Rattle.lines.proofs.Digits.{decimal-byte}
 
 -- ---- lengths
@@ -30,7 +30,7 @@ safe-length n = line-length _ n
 pub unsafe-length : (l n : ℕ) → length (firstLine (Unsafe l n)) ≡ 7 + length (decimal l) + 1 + length (decimal n) + 1
 unfolding firstLine
 unsafe-length l n =
-    omega (arith, length-append (unsafeWord ++ decimal l) (line space n), length-append unsafeWord (decimal l), line-length space n)
+    omega (arith, length-append (unsafeWord ++ decimal l) (line blank n), length-append unsafeWord (decimal l), line-length blank n)
 
 pub room-length : (n : ℕ) → length (firstLine (NoRoom n)) ≡ 5 + length (decimal n) + 1
 unfolding firstLine
@@ -125,6 +125,6 @@ given-most (Unsafe l n) trace byte = masks-most l trace byte
 given-most (NoRoom n) trace byte = omega arith
 given-most (Refused r) trace byte = omega arith
 
--- LAW: the lines of an answer with a trace space of n bytes
+-- LAW: the lines of an answer with a trace blank of n bytes
 pub lines-most : (a : SearchAnswer) (trace : List ℕ) → length (firstLine a) ≤ 60 → ((i : ℕ) → getD trace i 0 < 256) → length (linesOf a trace) ≤ 60 + 4 * length trace
 lines-most a trace h byte = omega (arith, lines-length a trace, given-most a trace byte)

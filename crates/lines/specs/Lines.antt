@@ -39,13 +39,13 @@ roomWord = 114 ∷ 111 ∷ 111 ∷ 109 ∷ 32 ∷ []
 abbrev pub refusedWord : List ℕ
 refusedWord = 114 ∷ 101 ∷ 102 ∷ 117 ∷ 115 ∷ 101 ∷ 100 ∷ 32 ∷ []
 
-abbrev pub space : List ℕ
-space = 32 ∷ []
+abbrev pub blank : List ℕ
+blank = 32 ∷ []
 
 -- the first line of an answer
 unfoldable pub firstLine : SearchAnswer → List ℕ
 firstLine (Safe n) = line safeWord n
-firstLine (Unsafe l n) = (unsafeWord ++ decimal l) ++ line space n
+firstLine (Unsafe l n) = (unsafeWord ++ decimal l) ++ line blank n
 firstLine (NoRoom n) = line roomWord n
 firstLine (Refused r) = line refusedWord r
 
@@ -54,7 +54,7 @@ unfoldable pub maskLines : List ℕ → List ℕ
 maskLines [] = []
 maskLines (mask ∷ masks) = line [] mask ++ maskLines masks
 
--- the masks that an answer gives: under Unsafe the first L of the trace space
+-- the masks that an answer gives: under Unsafe the first L of the trace blank
 unfoldable pub masksGiven : SearchAnswer → List ℕ → List ℕ
 masksGiven (Safe n) trace = []
 masksGiven (Unsafe l n) trace = take l trace

@@ -1,11 +1,13 @@
 -- From what the parts of the search leave to the claim: the verdict with its slots cleared, the refusals. Assumes nothing.
 use Prim.Native.Nat.{ℕ, zero, suc, _*_, _/_, _≤_, _<_, min}
-use mathlib.Core.Path.{_≡_, refl, ap, _∙_}
+use mathlib.Core.Path.{_≡_, refl, sym, ap, _∙_}
 use mathlib.Core.List.{List, [], _∷_}
 use native.Mathlib.Omega.{arith}
 use native.Mathlib.Nat.{min-le-left, min-le-right}
 use lib.ListN.{length, getD, take, replicate, length-replicate}
+use lib.Dec.{eqb}
 use borrow.Author.Tests.{eq-eqb, ne-eqb, lt-ltb, le-ltb}
+use Rattle.tasks.specs.Lists.{pick}
 use Rattle.tasks.specs.Table.{tableFault}
 use Rattle.tasks.specs.Sheet.{sheetOf}
 use Rattle.tasks.specs.declared.table.Table.{Table}
@@ -20,6 +22,7 @@ use Rattle.search.specs.Slot.{Cleared}
 use Rattle.search.specs.Claim.{slotsIn, spacesRefusal, tableRefusal, afterReading, sheetRefusal, Figures, figures, verdictFigures, refusalFigures, Replays, Searched, Found, Search}
 use Rattle.search.specs.Keeping.{Spaces, Lent, RanBy, answerOf}
 use Rattle.search.specs.declared.run.SearchAnswer.{SearchAnswer}
+use Rattle.search.specs.declared.run.SearchAnswer.the-variants as SearchAnswer
 use Rattle.search.proofs.SystemLaws.{replay-missed}
 
 -- the figures of the code's answer for a verdict
@@ -50,6 +53,25 @@ verdict-replays t valid trace bytes k (Safe n) x = tt
 verdict-replays t valid trace bytes k (NoRoom n) x = tt
 
 -- ---- the verdict with its slots cleared
+
+-- the answer that has the figures
+unfoldable told : Figures → SearchAnswer
+told f =
+    pick (eqb (f .kind) 1) (SearchAnswer.Safe (f .N))
+    (pick (eqb (f .kind) 2) (SearchAnswer.Unsafe (f .L) (f .N))
+    (pick (eqb (f .kind) 3) (SearchAnswer.NoRoom (f .N))
+    (SearchAnswer.Refused (f .N))))
+
+told-back : (a : SearchAnswer) → told (figures a) ≡ a
+unfolding told
+told-back (SearchAnswer.Safe n) = refl
+told-back (SearchAnswer.Unsafe l n) = refl
+told-back (SearchAnswer.NoRoom n) = refl
+told-back (SearchAnswer.Refused r) = refl
+
+-- LAW: an answer is told by its figures
+pub figures-is : {a b : SearchAnswer} → figures a ≡ figures b → a ≡ b
+figures-is {a} {b} e = sym (told-back a) ∙ ap told e ∙ told-back b
 
 module _ {t : Table} {w trace heads : List ℕ} {k : ℕ} (spaces : Spaces t w trace heads k) where
   module _ {w₁ trace′ : List ℕ} {a : SearchAnswer} (x : RanBy t w w₁ trace trace′ k a) where

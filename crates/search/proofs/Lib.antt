@@ -8,10 +8,9 @@ pub mod IndexLaws
 pub mod MaskTest
 pub mod MaskLaws
 pub mod SystemLaws
-pub mod OutcomeLaws
+pub mod ComputedLaws
 pub mod HuntLaws
 pub mod StoreLaws
 pub mod TraceLaws
 pub mod RunLaws
-pub mod SheetLaws
 pub mod ClaimLaws

@@ -24,7 +24,7 @@ pub(crate) enum HuntAnswer {
 
 // Whether some mask misses from the state in the words: then the mask of all tasks that may be released does, and some job is tight
 // before the tick. Most states have no tight job, and are left without a tick.
-fn may_miss(t: Table, ticker: Ticker, v: [u16; 8]) -> bool
+fn has_miss(t: Table, ticker: Ticker, v: [u16; 8]) -> bool
     requires { ⌜ (ticker ≡ tickerOf t) × (tableFault t ≡ 0) × (improper t (stateOf v) ≡ false) ⌝ }
     ensures { λ r. ⌜ r ≡ missed t (after t (stateOf v) (freeMask t (stateOf v))) ⌝ }
 {
@@ -37,7 +37,7 @@ fn may_miss(t: Table, ticker: Ticker, v: [u16; 8]) -> bool
     false
 }
 
-// Tries the slots of the level for a miss, and the legal masks of each slot that may have one, in increasing order.
+// Tries the slots of the level for a miss, and of a slot that has one the legal masks in increasing order.
 pub(crate) fn hunt(t: Table, ticker: Ticker, work: &[u8], lo: usize, hi: usize) -> HuntAnswer
     requires { ⌜ (ticker ≡ tickerOf t) × (lo ≤ hi) × Level t (now work) hi ⌝ }
     ensures { λ r. ⌜ HuntIs t (now (work .entry)) lo hi r ⌝ }
@@ -48,7 +48,7 @@ pub(crate) fn hunt(t: Table, ticker: Ticker, work: &[u8], lo: usize, hi: usize) 
             break 'hunt HuntAnswer::Clear;
         }
         let v = words_at(work, i);
-        if may_miss(t, ticker, v) {
+        if has_miss(t, ticker, v) {
             let free = ticker.free(v);
             let state = ticker.prepare(v);
             let mut m: u16 = 0;

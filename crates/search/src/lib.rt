@@ -11,4 +11,6 @@ mod trace;
 pub use run::SearchAnswer;
 pub use search::search_sheet;
 pub use search::search_table;
+
+// For the calls above: it writes any state.
 pub use slots::write_state;

@@ -12,15 +12,15 @@ use Rattle.tasks.specs.Answers.{numberAnswer, replayFigures, replayAnswer}
 use Rattle.tasks.specs.Replay.{played, replayed}
 use Rattle.tasks.specs.declared.table.Table.{Table}
 use Rattle.levels.specs.Verdict.{Answer, Verdict}
-use Rattle.levels.specs.Compute.{outcome}
-use Rattle.levels.specs.Compute.Outcome.{Answered}
+use Rattle.levels.specs.Compute.{computed}
+use Rattle.levels.specs.Compute.Computed.{Answered}
 use Rattle.search.specs.System.{step, system}
-use Rattle.search.specs.Outcome.{sameNumbers, sameStates, below, verdictOf}
-use Rattle.search.proofs.OutcomeLaws.{verdict-right}
+use Rattle.search.specs.Computed.{sameNumbers, sameStates, below, verdictOf}
+use Rattle.search.proofs.ComputedLaws.{verdict-right}
 use Rattle.starred.specs.Starred.{answer, starred, Example}
 
 pub starred-hold : map (λ (e : Example). answer (e .asks)) starred ≡ map (λ (e : Example). e .says) starred
-unfolding outcome step sameNumbers sameStates below verdictOf numberAt numberIn numberAnswer replayFigures replayAnswer count any breaks faultAt tableFault started keeps late improperAt improper illegalAt illegal releasedAt released key before ahead runs chosen ranAt fallen ran after missed refusal ticked played replayed
+unfolding computed step sameNumbers sameStates below verdictOf numberAt numberIn numberAnswer replayFigures replayAnswer count any breaks faultAt tableFault started keeps late improperAt improper illegalAt illegal releasedAt released key before ahead runs chosen ranAt fallen ran after missed refusal ticked played replayed
 starred-hold = refl
 
 -- the verdicts computed are those of demand 3, for any table and any K from 1 on

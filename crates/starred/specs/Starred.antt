@@ -7,7 +7,7 @@ use Rattle.tasks.specs.Number.{numberAt}
 use Rattle.tasks.specs.Replay.{replayed}
 use Rattle.tasks.specs.Answers.{numberAnswer, replayAnswer}
 use Rattle.tasks.specs.declared.table.Table.{Table}
-use Rattle.search.specs.Outcome.{verdictOf, outcomeAnswer}
+use Rattle.search.specs.Computed.{verdictOf, computedAnswer}
 
 -- (C, D, P) of a task
 pub record Task : Type 0 where
@@ -43,7 +43,7 @@ pub data Question : Type 0 where
 abbrev pub answer : Question → List ℕ
 answer (sheetNumber bytes) = numberAnswer (numberAt bytes 0)
 answer (replay t masks) = take 2 (replayAnswer (replayed t masks))
-answer (verdict t K) = outcomeAnswer (verdictOf t K)
+answer (verdict t K) = computedAnswer (verdictOf t K)
 
 -- a question with the paper's answer
 pub record Example : Type 0 where

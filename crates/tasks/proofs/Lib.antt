@@ -14,6 +14,7 @@ pub mod Sheets
 pub mod RoundTrip
 pub mod Again
 pub mod Front
+pub mod Listed
 pub mod Order
 pub mod Signed
 pub mod Legal

@@ -8,7 +8,7 @@ use Rattle.tasks.specs.Lists.{pick}
 use Rattle.tasks.specs.declared.number.Number.{Number}
 use Rattle.tasks.specs.declared.number.Number.the-variants.{Value, Refused}
 
--- the value of a group list
+-- the value of a group list; this and `Canonical` are what the laws of numbers of any length speak of (proofs/Groups.antt)
 unfoldable pub value : List ℕ → ℕ
 value [] = 0
 value (g ∷ gs) = g + 128 * value gs

@@ -21,14 +21,14 @@ pub struct Sheet {
 }
 
 // The three numbers of a task.
-pub struct Task {
+pub(crate) struct Task {
     pub work: u8,
     pub deadline: u8,
     pub gap: u8,
 }
 
 // What stands at a task's place: its numbers with the place after them, or why there is none.
-pub enum TaskRead {
+pub(crate) enum TaskRead {
     Read(Task, usize),
     Refused(u8),
 }

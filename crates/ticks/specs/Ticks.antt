@@ -25,8 +25,8 @@ tableOf b =
     }
 
 -- state k in 16 bytes: eight c, then eight p
-unfoldable pub stateAt : List ℕ → ℕ → State
-stateAt b k = record { c = bytesFrom b (16 * k); p = bytesFrom b (16 * k + 8) }
+unfoldable pub stateIn : List ℕ → ℕ → State
+stateIn b k = record { c = bytesFrom b (16 * k); p = bytesFrom b (16 * k + 8) }
 
 -- eight bytes as one number, low byte first
 unfoldable pub word : List ℕ → ℕ
@@ -41,7 +41,7 @@ figure t s = ((word (s .c) + word (s .p)) % 2 ^ 64 + pick (missed t s) 1 0) % 2 
 -- the figures of the first k ticks
 unfoldable pub sum : Table → List ℕ → List ℕ → ℕ → ℕ
 sum t states masks zero = 0
-sum t states masks (suc k) = (sum t states masks k + figure t (after t (stateAt states k) (getD masks k 0))) % 2 ^ 64
+sum t states masks (suc k) = (sum t states masks k + figure t (after t (stateIn states k) (getD masks k 0))) % 2 ^ 64
 
 -- how many ticks there are: as many as masks and whole states
 unfoldable pub pairs : List ℕ → List ℕ → ℕ

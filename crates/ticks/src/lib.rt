@@ -1,7 +1,7 @@
 // Many ticks in one call, for the comparison of speed with a native tick (bench/README.md). No part of the engine.
 ghost use mathlib.Core.Path.{_≡_};
 ghost use Prim.Native.Nat.{_+_, _*_, _≤_};
-ghost use Rattle.ticks.specs.Ticks.{bytesFrom, tableOf, stateAt, word, figure, pairs, ticksSum};
+ghost use Rattle.ticks.specs.Ticks.{bytesFrom, tableOf, stateIn, word, figure, pairs, ticksSum};
 ghost use Rattle.tasks.specs.Ticker.{preparedBy, tickedBy};
 ghost use Rattle.tasks.specs.Words.{wordsOf, stateOf};
 use tasks::State;
@@ -54,7 +54,7 @@ fn table_of(b: &[u8]) -> Table
 // State k of those in the bytes.
 fn state_at(b: &[u8], k: usize) -> State
     requires { do ⌜ 16 * k + 16 ≤ (← ⟦b.len()⟧) ⌝ }
-    ensures { λ r. ⌜ r ≡ stateAt (now (b .entry)) k ⌝ }
+    ensures { λ r. ⌜ r ≡ stateIn (now (b .entry)) k ⌝ }
 {
     let at = 16 * k;
     State {

@@ -1,4 +1,4 @@
-use Rattle.ticks.specs.Ticks.{stateAt}
+use Rattle.ticks.specs.Ticks.{stateIn}
 use borrow.Author.Needs.{needs}
 use Rattle.ticks.proofs.state_at.Statement.{statement}
 use Rattle.ticks.proofs.state_at.Tie as tie
@@ -16,7 +16,7 @@ bytes-from-requires-2 : tie.Need-bytes-from-requires-2
 bytes-from-requires-2 c κs = search needs
 
 returns : tie.Need-returns
-unfolding stateAt
+unfolding stateIn
 returns c = rw (c .before .bytes-from .ensures, c .bytes-from2 .ensures)
 
 pub state-at-spec : {M : Type 1} → statement M

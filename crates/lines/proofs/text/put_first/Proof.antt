@@ -6,7 +6,7 @@ use lib.ListN.{length}
 use Rattle.tasks.proofs.Stores.{Storing, storing-start, storing-step, storing-room, storing-left, storing-last}
 use Rattle.search.specs.declared.run.SearchAnswer.{SearchAnswer}
 use Rattle.search.specs.declared.run.SearchAnswer.the-variants.{Unsafe}
-use Rattle.lines.specs.Lines.{decimal, line, unsafeWord, space, firstLine}
+use Rattle.lines.specs.Lines.{decimal, line, unsafeWord, blank, firstLine}
 use native.Mathlib.Omega.{arith}
 use borrow.Author.Needs.{needs}
 use Rattle.lines.proofs.text.put_first.Statement.{statement}
@@ -15,9 +15,9 @@ use Rattle.lines.proofs.text.put_first.Tie as tie
 -- under Unsafe: the word with L, and then a line of the count
 whole :
     (out : List ℕ) {a : SearchAnswer} {l n : ℕ} → length (firstLine a) ≤ length out → a ≡ Unsafe l n
-    → Storing out 0 ((unsafeWord ++ decimal l) ++ line space n) out 0 ((unsafeWord ++ decimal l) ++ line space n)
+    → Storing out 0 ((unsafeWord ++ decimal l) ++ line blank n) out 0 ((unsafeWord ++ decimal l) ++ line blank n)
 unfolding firstLine
-whole out {a} {l} {n} h e = storing-start out 0 ((unsafeWord ++ decimal l) ++ line space n) (let p = rw e at h in omega arith)
+whole out {a} {l} {n} h e = storing-start out 0 ((unsafeWord ++ decimal l) ++ line blank n) (let p = rw e at h in omega arith)
 
 enum-known-a : tie.Need-enum-known-a
 enum-known-a c = search needs
@@ -39,7 +39,7 @@ put-word-requires : tie.Need-put-word-requires
 unfolding firstLine
 put-word-requires c κs =
     let w = unsafeWord ++ decimal (c .before .before .before .a2 .given .0 .0) in
-    let l = line space (c .before .before .before .a2 .given .0 .1 .0) in
+    let l = line blank (c .before .before .before .a2 .given .0 .1 .0) in
     storing-room w l (whole (c .before .before .before .before .before .before .args .out .now) (c .before .before .before .before .before .before .pre) (c .before .before .before .a2 .given .1))
 
 slice-aggregate-put-line-2 : tie.Need-slice-aggregate-put-line-2
@@ -48,7 +48,7 @@ slice-aggregate-put-line-2 c = search needs
 put-line-requires-2 : tie.Need-put-line-requires-2
 put-line-requires-2 c κs =
     let w = unsafeWord ++ decimal (c .before .before .before .before .before .before .before .before .a2 .given .0 .0) in
-    let l = line space (c .before .before .before .before .before .before .before .before .a2 .given .0 .1 .0) in
+    let l = line blank (c .before .before .before .before .before .before .before .before .a2 .given .0 .1 .0) in
     let p = whole (c .before .before .before .before .before .before .before .before .before .before .before .args .out .now) (c .before .before .before .before .before .before .before .before .before .before .before .pre) (c .before .before .before .before .before .before .before .before .a2 .given .1) in
     storing-left l (storing-step w l p (c .before .before .before .before .put-word .ensures .1) (c .before .before .before .before .put-word .ensures .0))
 
@@ -89,7 +89,7 @@ returns-2 : tie.Need-returns-2
 unfolding firstLine
 returns-2 c =
     let w = unsafeWord ++ decimal (c .before .before .before .before .before .before .before .before .before .before .before .a2 .given .0 .0) in
-    let l = line space (c .before .before .before .before .before .before .before .before .before .before .before .a2 .given .0 .1 .0) in
+    let l = line blank (c .before .before .before .before .before .before .before .before .before .before .before .a2 .given .0 .1 .0) in
     let p = whole (c .before .before .before .before .before .before .before .before .before .before .before .before .before .before .args .out .now) (c .before .before .before .before .before .before .before .before .before .before .before .before .before .before .pre) (c .before .before .before .before .before .before .before .before .before .before .before .a2 .given .1) in
     let q = storing-step w l p (c .before .before .before .before .before .before .before .put-word .ensures .1) (c .before .before .before .before .before .before .before .put-word .ensures .0) in
     rw (c .before .before .before .before .before .before .before .before .before .before .before .a2 .given .1) (omega (arith, c .before .before .put-line2 .ensures .0, q .place), storing-last l q (c .before .before .put-line2 .ensures .1))

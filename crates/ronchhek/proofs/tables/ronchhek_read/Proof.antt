@@ -4,7 +4,7 @@ use lib.Seq.{sets}
 use Rattle.tasks.specs.Answers.{sheetAnswer}
 use Rattle.tasks.specs.declared.sheet.Sheet.{Sheet}
 use Rattle.tasks.proofs.Answers.{sheet-is}
-use Rattle.search.proofs.SheetLaws.{sheet-refusal}
+use Rattle.tasks.proofs.Listed.{sheet-refusal}
 use Rattle.ronchhek.specs.Tables.{tableBytes}
 use Rattle.ronchhek.proofs.TableLaws.{read-refused, read-short, read-done}
 use borrow.Author.Needs.{needs}

@@ -45,8 +45,8 @@ hunt-holds c = let r = c .before .pre in (omega arith, omega arith, hunt-start (
 words-at-requires : tie.Need-words-at-requires Inv-loop μ-loop Inv-hunt μ-hunt
 words-at-requires c κs = search needs
 
-may-miss-requires : tie.Need-may-miss-requires Inv-loop μ-loop Inv-hunt μ-hunt
-may-miss-requires c κs =
+has-miss-requires : tie.Need-has-miss-requires Inv-loop μ-loop Inv-hunt μ-hunt
+has-miss-requires c κs =
     let pre = c .before .before .before .before .pre in
     let h = c .before .before .hunt in
     let ne = c .before .if1 .left in
@@ -111,7 +111,7 @@ hunt-again c =
     let calm : Calm (system (a .t)) s =
     ⊎-elim
     (λ w. calm-end (a .t) (level .valid) s proper (rw (← w .3 .inv .1) (w .3 .inv .0)) (w .4 .left))
-    (λ w. calm-test (a .t) (level .valid) s proper (c .before .before .words-at .ensures) (c .before .may-miss .ensures) (w .left))
+    (λ w. calm-test (a .t) (level .valid) s proper (c .before .before .words-at .ensures) (c .before .has-miss .ensures) (w .left))
     (c .if2 .came) in
     (omega arith, omega arith, hunt-turn (a .t) (a .work .now) (h .inv .2) calm)
 
@@ -139,7 +139,7 @@ hunt-spec =
     μ-hunt
     hunt-holds
     words-at-requires
-    may-miss-requires
+    has-miss-requires
     free-requires
     prepare-requires
     loop-holds

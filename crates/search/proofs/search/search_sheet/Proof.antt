@@ -1,7 +1,7 @@
 -- The sheet is refused, or its table, which is valid, is searched. Assumes nothing.
 use Rattle.tasks.specs.Sheet.{sheetOf}
 use Rattle.tasks.specs.declared.sheet.Reading.the-variants.{Refused}
-use Rattle.search.proofs.SheetLaws.{sheet-refusal, read-accepted}
+use Rattle.tasks.proofs.Listed.{sheet-refusal, read-accepted}
 use mathlib.Core.Path.{_≡_, sym, ap, _∙_}
 use Prim.Native.Nat.{_-_}
 use Rattle.tasks.proofs.Answers.{sheet-is}

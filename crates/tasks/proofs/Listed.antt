@@ -101,6 +101,7 @@ sheet-listed s =
     (λ m c. then-listed (fieldAt s c 1 8 6) _ (field-listed s c 1 8 6 (omega arith, omega arith))
     (λ n d. tasks-listed n 0 (emptyTable policy m n) s d))))
 
+-- LAW: so a refused sheet has one of these numbers
 pub sheet-refusal : (s : List ℕ) {r : ℕ} → sheetOf s .answer ≡ Reading.Refused r → (0 < r) × (r ≤ 8)
 sheet-refusal s e = rw e at (sheet-listed s)
 

@@ -1,4 +1,4 @@
--- The verdict of a table as a computation (`levels`, Compute.antt), for tables so small that the checker runs it; proofs/OutcomeLaws.antt shows
+-- The verdict of a table as a computation (`levels`, Compute.antt), for tables so small that the checker runs it; proofs/ComputedLaws.antt shows
 -- that its answer is the verdict.
 use Prim.Native.Nat.{ℕ, zero, suc, _^_}
 use mathlib.Core.Bool.{Bool, true, false, _&&_}
@@ -6,8 +6,8 @@ use mathlib.Core.List.{List, [], _∷_, _++_}
 use lib.Dec.{eqb}
 use Rattle.tasks.specs.declared.state.State.{State}
 use Rattle.tasks.specs.declared.table.Table.{Table}
-use Rattle.levels.specs.Compute.{Outcome, outcome}
-use Rattle.levels.specs.Compute.Outcome.{Answered, OutOfFuel}
+use Rattle.levels.specs.Compute.{Computed, computed}
+use Rattle.levels.specs.Compute.Computed.{Answered, OutOfFuel}
 use Rattle.search.specs.System.{system}
 use Rattle.search.specs.Claim.{verdictFigures}
 
@@ -27,10 +27,10 @@ below zero = []
 below (suc n) = below n ++ n ∷ []
 
 -- the search of a table with K slots
-unfoldable pub verdictOf : Table → ℕ → Outcome ℕ
-verdictOf t K = outcome (system t) sameStates (below (2 ^ t .n)) K K
+unfoldable pub verdictOf : Table → ℕ → Computed ℕ
+verdictOf t K = computed (system t) sameStates (below (2 ^ t .n)) K K
 
 -- its figures, and the masks given: kind, L, N, and the masks
-abbrev pub outcomeAnswer : Outcome ℕ → List ℕ
-outcomeAnswer (Answered a masks) = verdictFigures a .kind ∷ verdictFigures a .L ∷ verdictFigures a .N ∷ masks
-outcomeAnswer OutOfFuel = []
+abbrev pub computedAnswer : Computed ℕ → List ℕ
+computedAnswer (Answered a masks) = verdictFigures a .kind ∷ verdictFigures a .L ∷ verdictFigures a .N ∷ masks
+computedAnswer OutOfFuel = []

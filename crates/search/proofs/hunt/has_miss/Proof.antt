@@ -6,8 +6,8 @@ use Rattle.tasks.proofs.InWords.{TableBytes, WordList}
 use Rattle.tasks.proofs.Free.{ticks, frees}
 use Rattle.search.proofs.HuntLaws.{calm-tight}
 use borrow.Author.Needs.{needs}
-use Rattle.search.proofs.hunt.may_miss.Statement.{statement}
-use Rattle.search.proofs.hunt.may_miss.Tie as tie
+use Rattle.search.proofs.hunt.has_miss.Statement.{statement}
+use Rattle.search.proofs.hunt.has_miss.Tie as tie
 
 -- the numbers of the table are bytes, and the words are words
 table-bytes : (c : tie.Start) → TableBytes (c .args .t)
@@ -45,6 +45,6 @@ returns-2 c =
     let s = c .before .before in
     sym (calm-tight (s .args .t) (s .pre .1) (stateOf (s .args .v)) (s .pre .2) (sym (c .before .tight .ensures) ∙ c .if1 .left))
 
-pub may-miss-spec : {M : Type 1} → statement M
-may-miss-spec =
+pub has-miss-spec : {M : Type 1} → statement M
+has-miss-spec =
     tie.close (tie.spec tight-requires free-requires prepare-requires after-requires misses-requires returns returns-2)

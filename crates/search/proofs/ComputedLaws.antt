@@ -22,11 +22,11 @@ use Rattle.tasks.proofs.Counts.{any-some}
 use Rattle.tasks.proofs.Legal.{beyond-illegal}
 use Rattle.levels.specs.Verdict.{Answer, Verdict}
 use Rattle.levels.specs.Verdict.Tick.{Refused}
-use Rattle.levels.specs.Compute.Outcome.{Answered, OutOfFuel}
+use Rattle.levels.specs.Compute.Computed.{Answered, OutOfFuel}
 use Rattle.levels.proofs.Legal.{FinitelyBranching}
-use Rattle.levels.proofs.Compute.{outcome-right, outcome-ends}
+use Rattle.levels.proofs.Compute.{computed-right, computed-ends}
 use Rattle.search.specs.System.{step, system}
-use Rattle.search.specs.Outcome.{sameNumbers, sameStates, below, verdictOf}
+use Rattle.search.specs.Computed.{sameNumbers, sameStates, below, verdictOf}
 use Rattle.search.proofs.MaskTest.{all}
 use Rattle.search.proofs.MaskLaws.{all-at}
 use Rattle.search.proofs.SystemLaws.{step-large, step-refused}
@@ -124,8 +124,8 @@ branching t =
 module _ (t : Table) (K : ℕ) (some : 1 ≤ K) where
   pub verdict-right : (a : Answer) (masks : List ℕ) → verdictOf t K ≡ Answered a masks → Verdict (system t) K a masks
   unfolding verdictOf
-  verdict-right a masks e = outcome-right (system t) sameStates (below (2 ^ t .n)) (branching t) K some K a masks e
+  verdict-right a masks e = computed-right (system t) sameStates (below (2 ^ t .n)) (branching t) K some K a masks e
 
   pub verdict-answers : verdictOf t K ≡ OutOfFuel → ⊥
   unfolding verdictOf
-  verdict-answers e = outcome-ends (system t) sameStates (below (2 ^ t .n)) (branching t) K some K (omega arith) e
+  verdict-answers e = computed-ends (system t) sameStates (below (2 ^ t .n)) (branching t) K some K (omega arith) e
