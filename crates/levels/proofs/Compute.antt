@@ -16,7 +16,7 @@ use Rattle.levels.specs.Verdict.{System, Tick, Answer, Reaches, Holds, V
 use Rattle.levels.specs.Verdict.Tick.{Next, Missed, Refused}
 use Rattle.levels.specs.Verdict.Answer.{Unsafe, Safe, NoRoom}
 use Rattle.levels.specs.Levels.{Before, Calm, Hunted, Covered, Storing}
-use Rattle.levels.specs.Compute.{Node, Trial, Hunt, NextLevel, Computed, trialsOf, trials, huntBy, hunt, orElse, known, addBy, addState, add, store, storedBy, huntedBy, search, computed}
+use Rattle.levels.specs.Compute.{Node, Trial, Hunt, NextLevel, Computed, trialsOf, trials, huntBy, hunt, orElse, known, addBy, addState, store, storedBy, huntedBy, search, computed}
 use Rattle.levels.specs.Compute.Hunt.{Miss, Clear}
 use Rattle.levels.specs.Compute.NextLevel.{Upto, Full}
 use Rattle.levels.specs.Compute.Computed.{Answered, OutOfFuel}

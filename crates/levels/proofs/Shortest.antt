@@ -1,16 +1,15 @@
 -- A shortest list that misses passes L different states, so under Unsafe L never exceeds the count, nor K.
-use mathlib.Core.Path.{_≡_, refl, sym, _∙_, ap}
-use mathlib.Core.Logic.{_⊎_}
+use mathlib.Core.Path.{_≡_, refl, sym, _∙_}
 use mathlib.Core.List.{List, [], _∷_, _++_}
-use Prim.Native.Nat.{ℕ, suc, _+_, _-_, _≤_, _<_}
+use Prim.Native.Nat.{ℕ, _+_, _-_, _≤_, _<_}
 use native.Mathlib.Omega.{arith}
-use native.Mathlib.Decide.{decLt, ℕ-discrete}
+use native.Mathlib.Decide.{decLt}
 use lib.ListN.{length, take, drop, length-append, length-take, length-drop, take-append-drop}
-use Rattle.levels.specs.Verdict.{System, Replay, Reaches, Misses, Within, replay, replayFrom, Distinct, Counts, Least, Verdict}
+use Rattle.levels.specs.Verdict.{System, Replay, Reaches, Misses, replay, replayFrom, Distinct, Counts, Least, Verdict}
 use Rattle.levels.specs.Verdict.Replay.{Kept, MissedAt, RefusedAt}
 use Rattle.levels.specs.Verdict.Answer.{Unsafe}
 use Rattle.levels.proofs.Numbered.{no-more}
-use Rattle.levels.proofs.Replay.{raise, replay-join, replay-missed, replay-refused}
+use Rattle.levels.proofs.Replay.{raise, replay-join, replay-refused}
 use Rattle.levels.proofs.Verdicts.{least-unique}
 
 module _ (sys : System) where

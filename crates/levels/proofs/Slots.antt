@@ -1,8 +1,8 @@
 -- The laws of the written slots: the slot rule is kept by a push, and what a search has stored is what its answer promises.
-use mathlib.Core.Path.{_≡_, refl, sym, _∙_, ap}
+use mathlib.Core.Path.{_≡_, sym, _∙_}
 use mathlib.Core.Logic.{_⊎_}
 use mathlib.Core.Logic._⊎_.{inl, inr}
-use Prim.Native.Nat.{ℕ, suc, _-_, _≤_, _<_}
+use Prim.Native.Nat.{ℕ, suc, _-_, _<_}
 use native.Mathlib.Omega.{arith}
 use Rattle.levels.specs.Verdict.{System, Answer}
 use Rattle.levels.specs.Verdict.Tick.{Next}

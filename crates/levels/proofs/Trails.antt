@@ -1,12 +1,11 @@
 -- The trails through the parents: one to each slot of a level, kept by a push, and longer by one mask at the next level.
-use mathlib.Core.Path.{_≡_, refl, sym, _∙_}
+use mathlib.Core.Path.{_≡_, refl}
 use mathlib.Core.Logic.{_⊎_}
 use mathlib.Core.Logic._⊎_.{inl, inr}
-use mathlib.Core.List.{List, [], _∷_, _++_}
 use Prim.Native.Nat.{ℕ, zero, suc, _≤_, _<_}
 use native.Mathlib.Omega.{arith}
 use lib.ListN.{length, length-append}
-use Rattle.levels.specs.Verdict.{System, Reaches}
+use Rattle.levels.specs.Verdict.{System}
 use Rattle.levels.specs.Verdict.Tick.{Next}
 use Rattle.levels.specs.Levels.{trail, Trailed, Grown}
 use Rattle.levels.proofs.Replay.{reach-snoc}

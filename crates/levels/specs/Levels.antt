@@ -3,7 +3,7 @@
 use mathlib.Core.Path.{_≡_}
 use mathlib.Core.List.{List, [], _∷_, _++_}
 use Prim.Native.Nat.{ℕ, zero, suc, _≤_, _<_}
-use Rattle.levels.specs.Verdict.{System, Tick, Within, Reaches, Distinct, Holds, CountAtMost}
+use Rattle.levels.specs.Verdict.{System, Within, Reaches, Distinct, Holds, CountAtMost}
 use Rattle.levels.specs.Verdict.Tick.{Next, Missed}
 use Rattle.levels.specs.Slots.{SlotRule}
 

@@ -1,9 +1,8 @@
 -- What the written slots must hold (document 01, "The search"), whatever their bytes: at i, parent i and mask i are those of slot i.
 -- Beside Verdict.antt this is the other file to believe.
 use mathlib.Core.Path.{_≡_}
-use mathlib.Core.List.{List}
 use Prim.Native.Nat.{ℕ, _-_, _<_}
-use Rattle.levels.specs.Verdict.{System, Tick, Answer, Within, Reached, Distinct, Holds}
+use Rattle.levels.specs.Verdict.{System, Answer, Within, Reached, Distinct, Holds}
 use Rattle.levels.specs.Verdict.Tick.{Next}
 use Rattle.levels.specs.Verdict.Answer.{Unsafe, Safe, NoRoom}
 

@@ -19,7 +19,7 @@ use Rattle.levels.specs.Slots.{countOf, masksOf}
 use Rattle.levels.proofs.Slots.{rule-same, stored-same, complete-same}
 use Rattle.search.specs.System.{system}
 use Rattle.search.specs.Slot.{Cleared}
-use Rattle.search.specs.Claim.{slotsIn, spacesRefusal, tableRefusal, afterReading, sheetRefusal, Figures, figures, verdictFigures, refusalFigures, Replays, Searched, Found, Search}
+use Rattle.search.specs.Claim.{slotsIn, spacesRefusal, tableRefusal, afterReading, sheetRefusal, Figures, figures, verdictFigures, refusalFigures, Replays, Found, Search}
 use Rattle.search.specs.Keeping.{Spaces, Lent, RanBy, answerOf}
 use Rattle.search.specs.declared.run.SearchAnswer.{SearchAnswer}
 use Rattle.search.specs.declared.run.SearchAnswer.the-variants as SearchAnswer

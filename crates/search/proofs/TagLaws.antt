@@ -1,7 +1,7 @@
 -- The tags of a bucket's head: bits that are set and tested. Assumes nothing.
-use Prim.Native.Nat.{ℕ, zero, suc, _+_, _*_, _/_, _%_, _^_, _<_}
+use Prim.Native.Nat.{ℕ, zero, suc, _*_, _/_, _%_, _^_, _<_}
 use mathlib.Core.Path.{_≡_, refl, sym, ap, _∙_}
-use mathlib.Core.Bool.{true, false, not, _||_}
+use mathlib.Core.Bool.{true, false, _||_}
 use native.Mathlib.Omega.{arith}
 use native.Mathlib.Nat.{div-self}
 use lib.Bits.{bitAnd, bitOr, or-shr, or-mod, or-lt}
@@ -9,7 +9,7 @@ use lib.Dec.{eqb}
 use lib.Pow.{pow-pos}
 use borrow.Author.Tests.{eq-eqb}
 use Rattle.tasks.specs.Tick.{bit}
-use Rattle.tasks.proofs.Bools.{clash, or-left, or-right, not-no}
+use Rattle.tasks.proofs.Bools.{or-left, or-right, not-no}
 use Rattle.tasks.proofs.Bits.{mask-test}
 
 or-digit : (x y : ℕ) → x < 2 → y < 2 → eqb (bitOr x y) 1 ≡ (eqb x 1 || eqb y 1)

@@ -1,6 +1,6 @@
 -- An answer is what its figures say: no two answers have the same. Assumes nothing.
 use Prim.Native.Nat.{ℕ}
-use mathlib.Core.Path.{_≡_, refl, ap, ap₂}
+use mathlib.Core.Path.{_≡_, refl, sym, ap, ap₂}
 use mathlib.Core.List.{List, _∷_}
 use native.Mathlib.Omega.{arith}
 use lib.ListN.{getD}
@@ -61,6 +61,10 @@ reading-is {a = Reading.Refused r} {b = Reading.Refused q} t u e = ap Reading.Re
 pub sheet-is : {a b : Sheet} → (sheetAnswer a ≡ sheetAnswer b) × (a .table ≡ b .table) → a ≡ b
 unfolding sheetAnswer
 sheet-is {a} {b} e = ap₂ (λ x t. record { answer = x; table = t }) (reading-is (a .table) (b .table) (e .0)) (e .1)
+
+-- the answer alone, from the promise of a reading to its definition
+pub sheet-reading : {a b : Sheet} → (sheetAnswer a ≡ sheetAnswer b) × (a .table ≡ b .table) → b .answer ≡ a .answer
+sheet-reading e = ap (λ (x : Sheet). x .answer) (sym (sheet-is e))
 
 pub sheet-told : {a b : Sheet} → a ≡ b → (sheetAnswer a ≡ sheetAnswer b) × (a .table ≡ b .table)
 sheet-told e = (ap sheetAnswer e, ap (λ (x : Sheet). x .table) e)

@@ -1,16 +1,15 @@
 -- Where no job is tight, no legal mask misses. Assumes nothing.
 use Prim.Native.Nat.{ℕ, _+_, _/_, _%_, _≤_, _<_}
-use mathlib.Core.Path.{_≡_, sym, ap, ap₂, _∙_}
+use mathlib.Core.Path.{_≡_, sym, ap₂, _∙_}
 use mathlib.Core.Bool.{true, false, _&&_, _||_}
 use mathlib.Core.List.{List}
 use native.Mathlib.Omega.{arith}
-use lib.Dec.{eqb, ltb}
-use lib.IntN.{pos, subℕ}
+use lib.Dec.{eqb}
 use lib.ListN.{getD}
 use lib.Signed.{ltZ}
 use borrow.Author.Tests.{lt-ltb, eq-eqb}
 use Rattle.tasks.specs.Table.{tableFault}
-use Rattle.tasks.specs.State.{slack, late, improper}
+use Rattle.tasks.specs.State.{late, improper}
 use Rattle.tasks.specs.Tick.{bit, illegal, after, missed}
 use Rattle.tasks.specs.Tight.{tightJob, tightAt, tight}
 use Rattle.tasks.specs.Words.{stateOf}

@@ -5,7 +5,6 @@ use lib.ListN.{length}
 use Rattle.lines.specs.Lines.{decimal}
 use Rattle.lines.proofs.Digits.{decimal-word, decimal-some, decimal-longer, decimal-single}
 use native.Mathlib.Omega.{arith}
-use borrow.Author.Needs.{needs}
 use Rattle.lines.proofs.decimal.decimal_len.Statement.{statement}
 use Rattle.lines.proofs.decimal.decimal_len.Tie as tie
 

@@ -1,5 +1,5 @@
 -- Under Unsafe all masks of the trace space where L is no less than its length. Assumes nothing.
-use mathlib.Core.Path.{_≡_, sym, _∙_}
+use mathlib.Core.Path.{sym, _∙_}
 use lib.Seq.{take-all}
 use Rattle.lines.specs.Lines.{masksGiven}
 use native.Mathlib.Omega.{arith}

@@ -1,8 +1,7 @@
 -- The sheet is refused, or its table is replayed. Assumes nothing.
 use Rattle.ronchhek.specs.Replays.{tableNumber, tableSpace, callNumber, callSpace}
-use Rattle.tasks.specs.declared.sheet.Sheet.{Sheet}
-use Rattle.tasks.proofs.Answers.{sheet-is}
-use mathlib.Core.Path.{sym, ap, _∙_}
+use Rattle.tasks.proofs.Answers.{sheet-reading}
+use mathlib.Core.Path.{ap, _∙_}
 use borrow.Author.Needs.{needs}
 use Rattle.ronchhek.proofs.replays.ronchhek_replay.Statement.{statement}
 use Rattle.ronchhek.proofs.replays.ronchhek_replay.Tie as tie
@@ -25,7 +24,7 @@ replay-table-requires c κs = search needs
 returns : tie.Need-returns
 unfolding callNumber callSpace
 returns c =
-    let e = ap (λ (x : Sheet). x .answer) (sym (sheet-is (c .before .before .before .before .before .read-sheet .ensures))) ∙ c .before .before .answer .given .1 in
+    let e = sheet-reading (c .before .before .before .before .before .read-sheet .ensures) ∙ c .before .before .answer .given .1 in
     (c .refused-at .ensures ∙ rw e, rw e)
 
 same-length : tie.Need-same-length
@@ -35,9 +34,9 @@ returns-2 : tie.Need-returns-2
 unfolding callNumber callSpace
 returns-2 c =
     let a = c .before .before .before .before .before .before .before .before .before .before .before .args in
-    let r = sheet-is (c .before .before .before .before .before .before .before .read-sheet .ensures) in
-    let e = ap (λ (x : Sheet). x .answer) (sym r) ∙ c .before .before .before .before .enum-told .given .1 in
-    let t-is = ap (λ (x : Sheet). x .table) r in
+    let read = (c .before .before .before .before .before .before .before .read-sheet .ensures) in
+    let e = sheet-reading read ∙ c .before .before .before .before .enum-told .given .1 in
+    let t-is = read .1 in
     (rw e (c .before .before .replay-table .ensures .0 ∙ ap (λ t. tableNumber t (a .list .now) (a .state .now)) t-is), rw e (c .before .before .replay-table .ensures .1 ∙ ap (λ t. tableSpace t (a .list .now) (a .state .now)) t-is))
 
 pub ronchhek-replay-spec : {M : Type 1} → statement M

@@ -1,19 +1,13 @@
 -- The sheet is refused, the space is too short, or the table is written. Assumes nothing.
-use mathlib.Core.Path.{_≡_, sym, ap, _∙_}
+use mathlib.Core.Path.{ap, _∙_}
 use lib.Seq.{sets}
-use Rattle.tasks.specs.Answers.{sheetAnswer}
-use Rattle.tasks.specs.declared.sheet.Sheet.{Sheet}
-use Rattle.tasks.proofs.Answers.{sheet-is}
+use Rattle.tasks.proofs.Answers.{sheet-reading}
 use Rattle.tasks.proofs.Listed.{sheet-refusal}
 use Rattle.ronchhek.specs.Tables.{tableBytes}
 use Rattle.ronchhek.proofs.TableLaws.{read-refused, read-short, read-done}
 use borrow.Author.Needs.{needs}
 use Rattle.ronchhek.proofs.tables.ronchhek_read.Statement.{statement}
 use Rattle.ronchhek.proofs.tables.ronchhek_read.Tie as tie
-
--- the answer of the reading
-told : {r q : Sheet} → (sheetAnswer r ≡ sheetAnswer q) × (r .table ≡ q .table) → q .answer ≡ r .answer
-told e = ap (λ (x : Sheet). x .answer) (sym (sheet-is e))
 
 read-sheet-requires : tie.Need-read-sheet-requires
 read-sheet-requires c κs = search needs
@@ -30,7 +24,7 @@ enum-told c = search needs
 returns : tie.Need-returns
 returns c =
     let a = c .before .before .before .before .before .before .before .args in
-    read-short (a .sheet .now) (a .table .now) (told (c .before .before .before .before .read-sheet .ensures) ∙ c .before .enum-told .given .1) (c .if1 .taken)
+    read-short (a .sheet .now) (a .table .now) (sheet-reading (c .before .before .before .before .read-sheet .ensures) ∙ c .before .enum-told .given .1) (c .if1 .taken)
 
 put-table-requires : tie.Need-put-table-requires
 put-table-requires c κs = search needs
@@ -41,7 +35,7 @@ add-result c = search needs
 returns-2 : tie.Need-returns-2
 returns-2 c =
     let a = c .before .before .before .before .before .before .before .args in
-    let e = told (c .before .before .before .before .read-sheet .ensures) ∙ c .before .answer .given .1 in
+    let e = sheet-reading (c .before .before .before .before .read-sheet .ensures) ∙ c .before .answer .given .1 in
     read-refused (a .sheet .now) (a .table .now) (sheet-refusal (a .sheet .now) e .0) e
 
 same-length : tie.Need-same-length
@@ -50,7 +44,7 @@ same-length c = search needs
 returns-3 : tie.Need-returns-3
 returns-3 c =
     let a = c .before .before .before .before .before .before .before .before .before .before .before .args in
-    let w = read-done (a .sheet .now) (a .table .now) (told (c .before .before .before .before .before .before .before .before .read-sheet .ensures) ∙ c .before .before .before .before .before .enum-told .given .1) (c .before .before .before .before .if1 .left) in
+    let w = read-done (a .sheet .now) (a .table .now) (sheet-reading (c .before .before .before .before .before .before .before .before .read-sheet .ensures) ∙ c .before .before .before .before .before .enum-told .given .1) (c .before .before .before .before .if1 .left) in
     (w .0, c .before .before .put-table .ensures ∙ ap (λ t. sets (a .table .now) 0 (tableBytes t)) (c .before .before .before .before .before .before .before .before .read-sheet .ensures .1) ∙ w .1)
 
 pub ronchhek-read-spec : {M : Type 1} → statement M

@@ -1,5 +1,5 @@
 -- No tight job, no miss; else the mask of all tasks that may be released is ticked. Assumes nothing.
-use mathlib.Core.Path.{_≡_, sym, ap, _∙_}
+use mathlib.Core.Path.{sym, ap, _∙_}
 use Rattle.tasks.specs.Tick.{after, missed}
 use Rattle.tasks.specs.Words.{stateOf}
 use Rattle.tasks.proofs.InWords.{TableBytes, WordList}

@@ -6,7 +6,6 @@ use Rattle.search.specs.Slot.{stateBytes}
 use Rattle.search.proofs.SlotLaws.{space-short, space-room}
 use lib.Seq.{sets}
 use mathlib.Core.Path.{_≡_, sym, ap, _∙_}
-use native.Mathlib.Omega.{arith}
 use borrow.Author.Needs.{needs}
 use Rattle.search.proofs.slots.write_state.Statement.{statement}
 use Rattle.search.proofs.slots.write_state.Tie as tie

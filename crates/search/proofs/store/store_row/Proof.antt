@@ -1,6 +1,6 @@
 -- The invariant: the successors under the masks passed are stored. Assumes nothing.
-use mathlib.Core.Path.{_≡_, refl, sym, ap, _∙_}
-use Prim.Native.Nat.{ℕ, _-_, _≤_}
+use mathlib.Core.Path.{_≡_, refl, ap, _∙_}
+use Prim.Native.Nat.{_-_, _≤_}
 use mathlib.Core.Logic.{⊎-elim}
 use lib.ListN.{length}
 use Rattle.tasks.specs.Tick.{after}
@@ -10,7 +10,6 @@ use Rattle.tasks.specs.declared.table.Table.{Table}
 use Rattle.tasks.proofs.InWords.{TableBytes, WordList}
 use Rattle.tasks.proofs.Free.{ticks, frees}
 use Rattle.search.specs.Keeping.{RowReady}
-use Rattle.search.specs.Slot.{stateAt}
 use Rattle.search.proofs.StoreLaws.{RowBy, row-start, row-known, row-added, row-crowded, row-falls, row-end}
 use native.Mathlib.Omega.{arith}
 use borrow.Author.Needs.{needs}

@@ -1,9 +1,8 @@
 -- A refused sheet, or the table of an accepted one, whose sheet is the same bytes. Assumes nothing.
-use Rattle.tasks.proofs.Answers.{sheet-is}
+use Rattle.tasks.proofs.Answers.{sheet-reading}
 use Rattle.tasks.proofs.Again.{copy-refused, copy-accepted}
-use Rattle.tasks.specs.declared.sheet.Sheet.{Sheet}
 use Rattle.tasks.specs.Sheet.{writeAnswer, writeOut}
-use mathlib.Core.Path.{sym, ap, _∙_}
+use mathlib.Core.Path.{ap, _∙_}
 use native.Mathlib.Omega.{arith}
 use borrow.Author.Needs.{needs}
 use Rattle.tasks.proofs.copies.copy_sheet.Statement.{statement}
@@ -24,7 +23,7 @@ write-sheet-requires c κs = search needs
 returns : tie.Need-returns
 returns c =
     let a = c .before .before .before .before .before .before .before .args in
-    copy-refused (a .s .now) (a .out .now) _ (ap (λ (x : Sheet). x .answer) (sym (sheet-is (c .before .before .before .before .read-sheet .ensures))) ∙ c .before .answer .given .1)
+    copy-refused (a .s .now) (a .out .now) _ (sheet-reading (c .before .before .before .before .read-sheet .ensures) ∙ c .before .answer .given .1)
 
 same-length : tie.Need-same-length
 same-length c = search needs
@@ -32,9 +31,9 @@ same-length c = search needs
 returns-2 : tie.Need-returns-2
 returns-2 c =
     let a = c .before .before .before .before .before .before .before .before .before .before .args in
-    let e = sheet-is (c .before .before .before .before .before .before .before .read-sheet .ensures) in
-    let t-is = ap (λ (x : Sheet). x .table) e in
-    let w = copy-accepted (a .s .now) (a .out .now) (λ i. omega (arith, c .before .before .before .before .before .before .before .before .before .shared-slice-known .given i)) (ap (λ (x : Sheet). x .answer) (sym e) ∙ c .before .before .before .before .enum-told .given .1) in
+    let read = (c .before .before .before .before .before .before .before .read-sheet .ensures) in
+    let t-is = read .1 in
+    let w = copy-accepted (a .s .now) (a .out .now) (λ i. omega (arith, c .before .before .before .before .before .before .before .before .before .shared-slice-known .given i)) (sheet-reading read ∙ c .before .before .before .before .enum-told .given .1) in
     (c .before .before .write-sheet .ensures .0 ∙ ap (λ t. writeAnswer t (a .out .now)) t-is ∙ w .0, c .before .before .write-sheet .ensures .1 ∙ ap (λ t. writeOut t (a .out .now)) t-is ∙ w .1)
 
 pub copy-sheet-spec : {M : Type 1} → statement M
