@@ -1,9 +1,9 @@
 // The choice of the running tasks, by one number a task, its place: the smaller goes first.
 ghost use mathlib.Core.Path.{_≡_};
 ghost use Prim.Native.Nat.{_+_, _<_};
-ghost use Rattle.tasks.specs.Lists.{eight};
+ghost use Rattle.tasks.specs.Lists.{eight, count};
 ghost use Rattle.tasks.specs.Tick.{chosen};
-ghost use Rattle.tasks.specs.Places.{shifted, placeOf, place, rank, runsBy};
+ghost use Rattle.tasks.specs.Places.{shifted, placeOf, place, rank, runsBy, under};
 use crate::state::State;
 use crate::table::Table;
 use crate::widths::wide16;
@@ -61,6 +61,20 @@ pub(crate) fn ranks(places: [u16; 8]) -> [u16; 8]
     ranks
 }
 
+// How many places are below x. `choose` ranks its tasks one by one: a second caller of `ranks` would keep it out of line in the
+// ticker, and the search would be a fourth slower.
+fn rank_of(places: [u16; 8], x: u16) -> u16
+    ensures { λ r. ⌜ r ≡ count 8 (under places x) ⌝ }
+{
+    let mut n: u16 = 0;
+    let mut i: usize = 0;
+    while i < 8 {
+        n += (places[i] < x) as u16;
+        i += 1;
+    }
+    n
+}
+
 // Whether a task runs, by its place and its rank.
 pub(crate) fn runs_by(place: u16, rank: u16, m: u16) -> bool
     ensures { λ r. ⌜ r ≡ runsBy place rank m ⌝ }
@@ -97,12 +111,12 @@ impl State {
         ensures { λ r. ⌜ r ≡ chosen t self ⌝ }
     {
         let places = self.places(t);
-        let ranks = ranks(places);
         let m = wide16(t.m);
         let mut run = [false; 8];
         let mut i: usize = 0;
         while i < 8 {
-            run[i] = runs_by(places[i], ranks[i], m);
+            let x = places[i];
+            run[i] = runs_by(x, rank_of(places, x), m);
             i += 1;
         }
         run
