@@ -7,7 +7,7 @@ use Rattle.tasks.specs.declared.table.Table.{Table}
 use Rattle.levels.specs.Verdict.{Answer}
 use Rattle.levels.specs.Verdict.Answer.{Unsafe, Safe, NoRoom}
 use Rattle.levels.proofs.Shortest.{unsafe-room}
-use Rattle.search.specs.System.{system}
+use Rattle.states.specs.System.{system}
 use Rattle.search.specs.Claim.{Figures, verdictFigures, Searched, Search}
 use Rattle.search.proofs.ClaimLaws.{slots-few}
 use Rattle.ronchhek.specs.Verdicts.{Low}

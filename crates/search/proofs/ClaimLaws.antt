@@ -17,13 +17,13 @@ use Rattle.levels.specs.Verdict.{Answer, Verdict}
 use Rattle.levels.specs.Verdict.Answer.{Unsafe, Safe, NoRoom}
 use Rattle.levels.specs.Slots.{countOf, masksOf}
 use Rattle.levels.proofs.Slots.{rule-same, stored-same, complete-same}
-use Rattle.search.specs.System.{system}
+use Rattle.states.specs.System.{system}
 use Rattle.search.specs.Slot.{Cleared}
 use Rattle.search.specs.Claim.{slotsIn, spacesRefusal, tableRefusal, afterReading, sheetRefusal, Figures, figures, verdictFigures, refusalFigures, Replays, Found, Search}
 use Rattle.search.specs.Keeping.{Spaces, Lent, RanBy, answerOf}
 use Rattle.search.specs.declared.run.SearchAnswer.{SearchAnswer}
 use Rattle.search.specs.declared.run.SearchAnswer.the-variants as SearchAnswer
-use Rattle.search.proofs.SystemLaws.{replay-missed}
+use Rattle.states.proofs.SystemLaws.{replay-missed}
 
 -- the figures of the code's answer for a verdict
 pub answer-figures : (a : Answer) → figures (answerOf a) ≡ verdictFigures a

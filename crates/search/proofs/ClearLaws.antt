@@ -8,7 +8,8 @@ use native.Mathlib.Nat.{add-assoc, add-zero}
 use lib.ListN.{length, getD, take, drop, set, length-set, length-drop}
 use lib.Seq.{ext-getD, length-take-le, getD-take, getD-drop, getD-set-same, getD-set-other, drop-set-lt, drop-drop}
 use borrow.Author.Count.{below-more}
-use Rattle.search.specs.Slot.{four, fourAt, stateAt, parentAt, maskAt, stateBytes, slotBytes, Formed, unlinked, Cleared}
+use Rattle.states.specs.Bytes.{four, fourAt, stateBytes}
+use Rattle.search.specs.Slot.{stateAt, parentAt, maskAt, slotBytes, Formed, unlinked, Cleared}
 use Rattle.search.proofs.SlotLaws.{Same, same-state, same-parent, same-mask}
 
 -- ---- one slot

@@ -25,11 +25,11 @@ use Rattle.levels.specs.Verdict.Tick.{Refused}
 use Rattle.levels.specs.Compute.Computed.{Answered, OutOfFuel}
 use Rattle.levels.proofs.Legal.{FinitelyBranching}
 use Rattle.levels.proofs.Compute.{computed-right, computed-ends}
-use Rattle.search.specs.System.{step, system}
+use Rattle.states.specs.System.{step, system}
 use Rattle.search.specs.Computed.{sameNumbers, sameStates, below, verdictOf}
-use Rattle.search.proofs.MaskTest.{all}
-use Rattle.search.proofs.MaskLaws.{all-at}
-use Rattle.search.proofs.SystemLaws.{step-large, step-refused}
+use Rattle.states.proofs.MaskTest.{all}
+use Rattle.states.proofs.MaskLaws.{all-at}
+use Rattle.states.proofs.SystemLaws.{step-large, step-refused}
 
 -- ---- states by their numbers
 

@@ -19,10 +19,12 @@ use Rattle.tasks.specs.declared.state.State.{State}
 use Rattle.levels.specs.Index.{Index}
 use Rattle.levels.specs.Verdict.{Holds}
 use Rattle.levels.proofs.Index.{index-start, index-push}
-use Rattle.search.specs.Slot.{stateAt, linkAt, keyOf, keyAt, bucketFor, bucketOf, tagOf, newest, tagsIn, Indexed, Pushed}
+use Rattle.states.specs.Keys.{keyOf}
+use Rattle.search.specs.Slot.{stateAt, linkAt, keyAt, bucketFor, bucketOf, tagOf, newest, tagsIn, Indexed, Pushed}
 use Rattle.search.proofs.SlotLaws.{same-state, same-parent, same-mask}
 use Rattle.search.proofs.SlotLaws.{withSlot, slot-long, slot-old, link-old, slot-state, slot-parent, slot-mask, slot-link, slot-later}
-use Rattle.search.proofs.KeyLaws.{key-at, Bytes, slot-bytes, one-state}
+use Rattle.states.specs.declared.keys.Key.{Key}
+use Rattle.states.proofs.KeyLaws.{key-from, Bytes, bytes-from, one-state}
 
 -- no slot is written, and every head is 0
 pub indexed-start : (w heads : List ℕ) → 0 < length heads → ((b : ℕ) → getD heads b 0 ≡ 0) → Indexed w heads 0
@@ -37,6 +39,11 @@ indexed-start w heads h zeros =
     }
 
 -- ---- a walk by keys
+
+-- the key of a slot is that of its state
+key-at : (w : List ℕ) (i : ℕ) → keyAt w i ≡ keyOf (stateAt w i)
+unfolding keyAt stateAt
+key-at w i = key-from w (24 * i)
 
 index-by : {S T : Type 0} (f : S → T) (hash : T → ℕ) (at : ℕ → S) {head link : ℕ → ℕ} {n : ℕ} → Index (λ s. hash (f s)) at head link n
     → Index hash (λ i. f (at i)) head link n
@@ -55,6 +62,10 @@ unfolding bucketOf
 keyed {w} {heads} {n} x =
     let e : (λ i. keyOf (stateAt w i)) ≡ keyAt w = (λ q i. sym (key-at w i) q) in
     rw e at (index-by keyOf (bucketFor (length heads)) (stateAt w) (x .index))
+
+slot-bytes : (w : List ℕ) (i : ℕ) → ((k : ℕ) → Fits w8 (getD w k 0)) → Bytes (stateAt w i)
+unfolding stateAt
+slot-bytes w i fits = bytes-from w (24 * i) fits
 
 -- a slot with the key of s holds s
 pub held : (w : List ℕ) (s : State) (n i : ℕ) → ((k : ℕ) → Fits w8 (getD w k 0)) → Bytes s → i < n → keyAt w i ≡ keyOf s → Holds (stateAt w) n s

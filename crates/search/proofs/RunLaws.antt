@@ -14,11 +14,11 @@ use Rattle.search.proofs.IndexLaws.{indexed-start}
 use Rattle.levels.proofs.Replay.{reached}
 use Rattle.levels.proofs.Slots.{level-stored, miss-complete, filled-stored, safe-complete}
 use Rattle.levels.proofs.Steps.{Standing, search-start, search-miss, search-open, search-next, search-safe}
-use Rattle.search.specs.System.{system}
+use Rattle.states.specs.System.{system}
 use Rattle.search.specs.Slot.{stateAt, parentAt, maskAt, Indexed, Pushed}
 use Rattle.search.specs.Keeping.{FillingIn, Level, MissFrom, Room, Overfull, LevelDone, LevelFull, TraceReady, traced, Spaces, RanBy}
 use Rattle.search.specs.declared.run.SearchAnswer.the-variants as SearchAnswer
-use Rattle.search.proofs.SystemLaws.{reached-proper}
+use Rattle.states.proofs.SystemLaws.{reached-proper}
 use Rattle.search.proofs.StoreLaws.{later-from}
 use Rattle.search.proofs.TraceLaws.{traced-front, traced-rest}
 

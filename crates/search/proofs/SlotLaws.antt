@@ -13,7 +13,8 @@ use Rattle.tasks.specs.declared.state.State.{State}
 use Rattle.tasks.specs.declared.writer.Writing.the-variants as Writing
 use Rattle.tasks.proofs.Fill.{eight-at, filled-end}
 use Rattle.tasks.proofs.Stores.{storing-start, storing-step}
-use Rattle.search.specs.Slot.{fourAt, stateAt, parentAt, maskAt, linkAt, twos, stateBytes, stateWriting, stateSpace, restBytes, linkedBytes}
+use Rattle.states.specs.Bytes.{fourAt, twos, stateBytes}
+use Rattle.search.specs.Slot.{stateAt, parentAt, maskAt, linkAt, stateWriting, stateSpace, restBytes, linkedBytes}
 
 -- ---- slot i of w and slot i of w′ agree but for their links
 

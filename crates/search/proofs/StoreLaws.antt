@@ -25,14 +25,13 @@ use Rattle.levels.specs.Levels.{Before}
 use Rattle.levels.proofs.Legal.{Row}
 use Rattle.levels.proofs.Slots.{filled-stored}
 use Rattle.levels.proofs.Steps.{search-row, search-known, search-push, search-close, search-room}
-use Rattle.search.specs.System.{step, system}
-use Rattle.search.specs.Masks.{follows}
+use Rattle.states.specs.System.{step, system}
+use Rattle.states.specs.Masks.{follows}
 use Rattle.search.specs.Slot.{stateAt}
 use Rattle.search.specs.Keeping.{FillingIn, Level, Room, Known, Added, Crowded, Kept, Carries, RowReady, RowDone, RowFull, LevelDone, LevelFull}
-use Rattle.search.proofs.MaskTest.{submask}
-use Rattle.search.proofs.MaskLaws.{next-submask, no-bits}
-use Rattle.search.proofs.SystemLaws.{step-missed, step-next, legal-or-refused}
-use Rattle.search.proofs.HuntLaws.{passed}
+use Rattle.states.proofs.MaskTest.{submask}
+use Rattle.states.proofs.MaskLaws.{next-submask, no-bits, passed}
+use Rattle.states.proofs.SystemLaws.{step-missed, step-next, legal-or-refused}
 
 -- bytes that stay from a on stay from b on
 pub later-from : (w w₁ : List ℕ) (a b : ℕ) → a ≤ b → drop a w₁ ≡ drop a w → drop b w₁ ≡ drop b w

@@ -17,7 +17,7 @@ use Rattle.tasks.specs.declared.sheet.Reading.the-variants as Reading
 use Rattle.levels.specs.Verdict.{Answer, Verdict}
 use Rattle.levels.specs.Verdict.Answer.{Unsafe, Safe, NoRoom}
 use Rattle.levels.specs.Slots.{SlotRule, Stored, Complete, countOf, masksOf}
-use Rattle.search.specs.System.{system}
+use Rattle.states.specs.System.{system}
 use Rattle.search.specs.Slot.{stateAt, parentAt, maskAt, Formed}
 use Rattle.search.specs.declared.run.SearchAnswer.{SearchAnswer}
 use Rattle.search.specs.declared.run.SearchAnswer.the-variants as SearchAnswer

@@ -8,7 +8,7 @@ use Rattle.tasks.specs.declared.state.State.{State}
 use Rattle.tasks.specs.declared.table.Table.{Table}
 use Rattle.levels.specs.Compute.{Computed, computed}
 use Rattle.levels.specs.Compute.Computed.{Answered, OutOfFuel}
-use Rattle.search.specs.System.{system}
+use Rattle.states.specs.System.{system}
 use Rattle.search.specs.Claim.{verdictFigures}
 
 unfoldable pub sameNumbers : List ℕ → List ℕ → Bool

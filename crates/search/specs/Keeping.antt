@@ -15,7 +15,7 @@ use Rattle.levels.specs.Verdict as levels
 use Rattle.levels.specs.Slots.{SlotRule, Stored, Complete, countOf, masksOf}
 use Rattle.levels.specs.Levels.{trail, Before, Hunting, Filling}
 use Rattle.search.specs.Claim.{slotsIn}
-use Rattle.search.specs.System.{step, system}
+use Rattle.states.specs.System.{step, system}
 use Rattle.search.specs.Slot.{stateAt, parentAt, maskAt, Indexed, Pushed}
 use Rattle.search.specs.declared.hunt.HuntAnswer.{HuntAnswer}
 use Rattle.search.specs.declared.hunt.HuntAnswer.the-variants.{Miss, Clear}

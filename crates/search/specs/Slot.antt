@@ -1,33 +1,27 @@
 -- The slots of the work space (document 01, "The search") and, no part of the paper, the index over them.
 use mathlib.Core.Path.{_≡_}
-use mathlib.Core.Bool.{Bool, true, false, _&&_}
+use mathlib.Core.Bool.{Bool, true, false}
 use mathlib.Core.List.{List, [], _∷_, _++_}
-use Prim.Native.Nat.{ℕ, zero, suc, _+_, _-_, _*_, _/_, _%_, _<_, _≤_}
+use Prim.Native.Nat.{ℕ, _+_, _-_, _*_, _/_, _%_, _<_, _≤_}
 use lib.Bits.{bitAnd}
-use lib.Dec.{eqb, ltb}
+use lib.Dec.{ltb}
 use lib.ListN.{length, getD, take, drop, set}
-use Rattle.tasks.specs.Lists.{eight, pick}
+use Rattle.tasks.specs.Lists.{pick}
 use Rattle.tasks.specs.Tick.{bit}
 use Rattle.tasks.specs.declared.state.State.{State}
 use Rattle.tasks.specs.declared.writer.Writing.{Writing}
 use Rattle.tasks.specs.declared.writer.Writing.the-variants as Writing
 use Rattle.levels.specs.Index.{Index}
 use Rattle.levels.specs.Verdict.{Holds}
-use Rattle.search.specs.declared.index.Key.{Key}
+use Rattle.states.specs.Bytes.{fourAt, stateFrom, stateBytes}
+use Rattle.states.specs.Keys.{keyFrom, keyOf, mixed}
+use Rattle.states.specs.declared.keys.Key.{Key}
 
 -- ---- what a slot holds
 
--- the number of four bytes, low byte first
-abbrev pub four : ℕ → ℕ → ℕ → ℕ → ℕ
-four x y z u = x + 256 * y + 65536 * z + 16777216 * u
-
--- the number in the four bytes from a on
-unfoldable pub fourAt : List ℕ → ℕ → ℕ
-fourAt w a = four (getD w a 0) (getD w (a + 1) 0) (getD w (a + 2) 0) (getD w (a + 3) 0)
-
 -- "16 state bytes (c, p of task 1, then task 2 and so on)"
 unfoldable pub stateAt : List ℕ → ℕ → State
-stateAt w i = record { c = eight (λ k. getD w (24 * i + 2 * k) 0); p = eight (λ k. getD w (24 * i + 2 * k + 1) 0) }
+stateAt w i = stateFrom w (24 * i)
 
 -- "the parent slot in 4 bytes low byte first"
 unfoldable pub parentAt : List ℕ → ℕ → ℕ
@@ -42,14 +36,6 @@ unfoldable pub linkAt : List ℕ → ℕ → ℕ
 linkAt w i = getD w (24 * i + 21) 0 + 256 * getD w (24 * i + 22) 0 + 65536 * getD w (24 * i + 23) 0
 
 -- ---- the 24 bytes of a slot
-
--- f 0, g 0, f 1, g 1, .. : k of each
-abbrev pub twos : ℕ → (ℕ → ℕ) → (ℕ → ℕ) → List ℕ
-twos zero f g = []
-twos (suc k) f g = f 0 ∷ g 0 ∷ twos k (λ j. f (suc j)) (λ j. g (suc j))
-
-unfoldable pub stateBytes : State → List ℕ
-stateBytes s = twos 8 (λ k. getD (s .c) k 0) (λ k. getD (s .p) k 0)
 
 -- a state written alone, to a space that may be too short for it (12)
 abbrev pub stateWriting : List ℕ → Writing
@@ -91,25 +77,11 @@ pub record Cleared (w w′ : List ℕ) (n : ℕ) : Type 0 where
 
 -- ---- the index: only the search's bookkeeping
 
--- a state's sixteen bytes as four numbers; word k has those of tasks 2k and 2k + 1, counted from 0
-unfoldable pub wordOf : State → ℕ → ℕ
-wordOf s k = four (getD (s .c) (2 * k) 0) (getD (s .p) (2 * k) 0) (getD (s .c) (2 * k + 1) 0) (getD (s .p) (2 * k + 1) 0)
-
-unfoldable pub keyOf : State → Key
-keyOf s = record { a = wordOf s 0; b = wordOf s 1; c = wordOf s 2; d = wordOf s 3 }
-
 -- the key of the state in slot i
 unfoldable pub keyAt : List ℕ → ℕ → Key
-keyAt w i = record { a = fourAt w (24 * i); b = fourAt w (24 * i + 4); c = fourAt w (24 * i + 8); d = fourAt w (24 * i + 12) }
+keyAt w i = keyFrom w (24 * i)
 
-unfoldable pub sameKeys : Key → Key → Bool
-sameKeys k l = ((eqb (k .a) (l .a) && eqb (k .b) (l .b)) && eqb (k .c) (l .c)) && eqb (k .d) (l .d)
-
--- a sum in which every byte of the key counts: the factors are below 2^30, so it fits 64 bits
-unfoldable pub mixed : Key → ℕ
-mixed k = 625341585 * k .a + 1013904223 * k .b + 668265261 * k .c + 374761393 * k .d
-
--- .. whose halves are added, and cut to the number of buckets, a power of two
+-- the halves of a key's sum added, and cut to the number of buckets, a power of two
 unfoldable pub bucketFor : ℕ → Key → ℕ
 bucketFor size k = bitAnd (mixed k / 4294967296 + mixed k % 4294967296) (size - 1)
 

@@ -5,46 +5,14 @@ ghost use mathlib.Core.Path.{_≡_};
 ghost use Prim.Native.Nat.{_+_, _*_, _^_, _<_, _≤_};
 ghost use lib.ListN.{length};
 ghost use Rattle.tasks.specs.Words.{stateOf};
-ghost use Rattle.search.specs.Slot.{keyOf, keyAt, sameKeys, mixed, bucketFor, tagFor, Indexed, HeldIs, Pushed};
+ghost use Rattle.states.specs.Keys.{keyOf, sameKeys, mixed};
+ghost use Rattle.search.specs.Slot.{keyAt, bucketFor, tagFor, Indexed, HeldIs, Pushed};
 use crate::slots::four_at;
 use crate::slots::link_of;
 use crate::slots::put;
-
-// The sixteen bytes of a state, as a slot has them, in four numbers: by these it is compared and hashed.
-pub(crate) struct Key {
-    a: u32,
-    b: u32,
-    c: u32,
-    d: u32,
-}
-
-// The number of two words, low word first.
-fn double(x: u16, y: u16) -> u32
-    ensures { λ r. ⌜ r ≡ x + 65536 * y ⌝ }
-{
-    (x as u32) + 65536 * (y as u32)
-}
-
-fn key_of(v: [u16; 8]) -> Key
-    ensures { λ r. ⌜ r ≡ keyOf (stateOf v) ⌝ }
-{
-    Key {
-        a: double(v[0], v[1]),
-        b: double(v[2], v[3]),
-        c: double(v[4], v[5]),
-        d: double(v[6], v[7]),
-    }
-}
-
-// A sum in which every byte of the key counts. The factors are below 2^30, so it fits.
-fn mix(key: Key) -> usize
-    ensures { λ r. ⌜ r ≡ mixed key ⌝ }
-{
-    625341585 * (key.a as usize)
-        + 1013904223 * (key.b as usize)
-        + 668265261 * (key.c as usize)
-        + 374761393 * (key.d as usize)
-}
+use states::Key;
+use states::key_of;
+use states::mix;
 
 // The bucket of a key, of `size` buckets: a power of two, for an even spread.
 fn bucket(key: Key, size: usize) -> usize

@@ -1,7 +1,6 @@
 // The search of a task table's states: slots in a lent work space, level by level, with its verdict.
 mod hunt;
 mod index;
-mod masks;
 mod run;
 mod search;
 mod slots;

@@ -5,20 +5,15 @@ ghost use Prim.Native.Nat.{_+_, _*_, _<_, _≤_};
 ghost use lib.ListN.{length, drop};
 ghost use lib.Seq.{sets};
 ghost use Rattle.tasks.specs.Words.{stateOf};
-ghost use Rattle.search.specs.Slot.{four, fourAt, stateAt, parentAt, maskAt, linkAt, stateBytes, stateWriting, stateSpace, linkedBytes, unlinked, Cleared};
+ghost use Rattle.states.specs.Bytes.{fourAt, stateBytes};
+ghost use Rattle.search.specs.Slot.{stateAt, parentAt, maskAt, linkAt, stateWriting, stateSpace, linkedBytes, unlinked, Cleared};
 ghost use Rattle.tasks.specs.Answers.{writingAnswer};
+use states::joined;
 use tasks::State;
 use tasks::Writing;
 use tasks::gap_in;
 use tasks::wide;
 use tasks::work_in;
-
-// The number of four bytes, low byte first.
-fn joined(x: u8, y: u8, z: u8, u: u8) -> u32
-    ensures { λ r. ⌜ r ≡ four x y z u ⌝ }
-{
-    (x as u32) + 256 * (y as u32) + 65536 * (z as u32) + 16777216 * (u as u32)
-}
 
 // The number in the four bytes from `at` on.
 pub(crate) fn four_at(work: &[u8], at: usize) -> u32

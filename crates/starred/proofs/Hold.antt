@@ -14,7 +14,7 @@ use Rattle.tasks.specs.declared.table.Table.{Table}
 use Rattle.levels.specs.Verdict.{Answer, Verdict}
 use Rattle.levels.specs.Compute.{computed}
 use Rattle.levels.specs.Compute.Computed.{Answered}
-use Rattle.search.specs.System.{step, system}
+use Rattle.states.specs.System.{step, system}
 use Rattle.search.specs.Computed.{sameNumbers, sameStates, below, verdictOf}
 use Rattle.search.proofs.ComputedLaws.{verdict-right}
 use Rattle.starred.specs.Starred.{answer, starred, Example}

@@ -10,9 +10,11 @@ use Rattle.tasks.proofs.InWords.{TableBytes, WordList}
 use Rattle.tasks.proofs.Free.{ticks, frees}
 use Rattle.levels.specs.Levels.{Calm, Hunting}
 use Rattle.levels.proofs.Explore.{hunt-start}
-use Rattle.search.specs.System.{system}
+use Rattle.states.specs.System.{system}
 use Rattle.search.specs.Slot.{stateAt}
-use Rattle.search.proofs.HuntLaws.{CalmTo, calm-start, calm-next, calm-falls, calm-end, calm-test, hunt-turn, miss-from}
+use Rattle.states.proofs.MaskLaws.{walked-start, walked-next, walked-falls}
+use Rattle.states.proofs.MissLaws.{calm-by}
+use Rattle.search.proofs.HuntLaws.{CalmTo, calm-end, hunt-turn, miss-from}
 use native.Mathlib.Omega.{arith}
 use borrow.Author.Needs.{needs}
 use Rattle.search.proofs.hunt.hunt.Statement.{statement}
@@ -46,11 +48,7 @@ words-at-requires : tie.Need-words-at-requires Inv-loop μ-loop Inv-hunt μ-hunt
 words-at-requires c κs = search needs
 
 has-miss-requires : tie.Need-has-miss-requires Inv-loop μ-loop Inv-hunt μ-hunt
-has-miss-requires c κs =
-    let pre = c .before .before .before .before .pre in
-    let h = c .before .before .hunt in
-    let ne = c .before .if1 .left in
-    (pre .0, pre .2 .valid, rw (c .words-at .ensures) (pre .2 .proper _ (omega arith)))
+has-miss-requires c κs = search needs
 
 free-requires : tie.Need-free-requires Inv-loop μ-loop Inv-hunt μ-hunt
 free-requires c κs = search needs
@@ -62,7 +60,7 @@ loop-holds : tie.Need-loop-holds Inv-loop μ-loop Inv-hunt μ-hunt
 loop-holds c =
     let w = c .before .before .before .before in
     let s = c .before .before .before .before .before .before .before .before in (
-      calm-start _ _ (omega (arith, c .before .free .ok)),
+      walked-start _ (omega (arith, c .before .free .ok)),
       frees _ _ (s .pre .0) (c .before .free .ensures) ∙ ap (freeMask _) (w .words-at .ensures),
       λ mask. ticks _ _ (s .pre .0) (c .prepare .ensures) (table-bytes s) (word-list w) mask ∙ ap (λ u. after (s .args .t) u mask) (w .words-at .ensures),
     )
@@ -82,13 +80,13 @@ follow-requires c κs = search needs
 loop-less : tie.Need-loop-less Inv-loop μ-loop Inv-hunt μ-hunt
 loop-less c =
     let x = c .before .before .before .before .before .loop .inv .0 in
-    rw (c .follow .ensures) (omega (arith, calm-falls _ _ (omega (arith, c .before .before .before .before .before .before .before .free .ok)) x (c .before .before .before .before .loop-test .taken), x .most))
+    rw (c .follow .ensures) (omega (arith, walked-falls _ (omega (arith, c .before .before .before .before .before .before .before .free .ok)) x (c .before .before .before .before .loop-test .taken), x .most))
 
 loop-again : tie.Need-loop-again Inv-loop μ-loop Inv-hunt μ-hunt
 loop-again c =
     let x = c .before .before .before .before .before .loop .inv in (
       rw (c .follow .ensures)
-          (calm-next _ _ (omega (arith, c .before .before .before .before .before .before .before .free .ok)) (x .0) (c .before .before .before .before .loop-test .taken) (rw (c .before .before .before .after .ensures, x .2 _) at (sym (c .before .before .misses .ensures) ∙ c .before .if3 .left))),
+          (walked-next _ (omega (arith, c .before .before .before .before .before .before .before .free .ok)) (x .0) (c .before .before .before .before .loop-test .taken) (rw (c .before .before .before .after .ensures, x .2 _) at (sym (c .before .before .misses .ensures) ∙ c .before .if3 .left))),
       x .1,
       x .2,
     )
@@ -111,7 +109,7 @@ hunt-again c =
     let calm : Calm (system (a .t)) s =
     ⊎-elim
     (λ w. calm-end (a .t) (level .valid) s proper (rw (← w .3 .inv .1) (w .3 .inv .0)) (w .4 .left))
-    (λ w. calm-test (a .t) (level .valid) s proper (c .before .before .words-at .ensures) (c .before .has-miss .ensures) (w .left))
+    (λ w. calm-by (a .t) (level .valid) s proper (c .before .before .words-at .ensures) (c .before .before .before .before .before .before .pre .0) (table-bytes (c .before .before .before .before .before .before)) (word-list (c .before .before)) (sym (c .before .has-miss .ensures) ∙ w .left))
     (c .if2 .came) in
     (omega arith, omega arith, hunt-turn (a .t) (a .work .now) (h .inv .2) calm)
 

@@ -5,8 +5,8 @@ use lib.ListN.{length}
 use Rattle.tasks.specs.Words.{stateOf}
 use Rattle.levels.proofs.Index.{Walk, walk-start, walk-next, walk-falls, walk-end}
 use Rattle.search.specs.Slot.{keyAt, bucketFor, bucketOf, tagOf, newest, tagsIn}
-use Rattle.search.proofs.WordLaws.{word-bytes}
-use Rattle.search.proofs.KeyLaws.{Bytes, keys-same, keys-differ}
+use Rattle.states.proofs.WordLaws.{word-bytes}
+use Rattle.states.proofs.KeyLaws.{Bytes, keys-same, keys-differ}
 use Rattle.search.proofs.IndexLaws.{keyed, held, not-held, not-tagged}
 use native.Mathlib.Omega.{arith}
 use borrow.Author.Needs.{needs}

@@ -6,8 +6,8 @@ use lib.ListN.{getD}
 use Rattle.tasks.specs.Words.{stateOf}
 use Rattle.search.specs.Slot.{bucketFor, bucketOf, tagOf, newest, tagsIn}
 use Rattle.search.proofs.SlotLaws.{placed}
-use Rattle.search.proofs.WordLaws.{word-bytes}
-use Rattle.search.proofs.KeyLaws.{Bytes}
+use Rattle.states.proofs.WordLaws.{word-bytes}
+use Rattle.states.proofs.KeyLaws.{Bytes}
 use Rattle.search.proofs.TagLaws.{tags-fit}
 use Rattle.search.proofs.IndexLaws.{pushed}
 use native.Mathlib.Omega.{arith}

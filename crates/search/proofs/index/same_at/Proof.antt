@@ -1,5 +1,6 @@
 -- By what the four numbers of the slot are. Assumes nothing.
-use Rattle.search.specs.Slot.{keyAt, sameKeys}
+use Rattle.states.specs.Keys.{sameKeys}
+use Rattle.search.specs.Slot.{keyAt}
 use borrow.Author.Needs.{needs}
 use Rattle.search.proofs.index.same_at.Statement.{statement}
 use Rattle.search.proofs.index.same_at.Tie as tie

@@ -1,5 +1,5 @@
 -- By what the four bytes are. Assumes nothing.
-use Rattle.search.specs.Slot.{fourAt}
+use Rattle.states.specs.Bytes.{fourAt}
 use borrow.Author.Needs.{needs}
 use Rattle.search.proofs.slots.four_at.Statement.{statement}
 use Rattle.search.proofs.slots.four_at.Tie as tie

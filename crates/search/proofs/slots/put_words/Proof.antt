@@ -5,7 +5,7 @@ use lib.ListN.{length, getD, length-set}
 use lib.Seq.{sets}
 use Rattle.tasks.specs.Words.{stateOf}
 use Rattle.tasks.proofs.InWords.{work-word, gap-word}
-use Rattle.search.specs.Slot.{twos, stateBytes}
+use Rattle.states.specs.Bytes.{twos, stateBytes}
 use Rattle.search.proofs.SlotLaws.{put-turn}
 use native.Mathlib.Omega.{arith}
 use borrow.Author.Needs.{needs}

@@ -5,7 +5,8 @@ use lib.ListN.{getD}
 use native.Mathlib.Omega.{arith}
 use Rattle.tasks.specs.Words.{stateOf}
 use Rattle.tasks.proofs.Fill.{Filled, filled-start, filled-store, filled-end}
-use Rattle.search.proofs.WordLaws.{loaded}
+use Rattle.search.specs.Slot.{stateAt}
+use Rattle.states.proofs.WordLaws.{loaded}
 use borrow.Author.Needs.{needs}
 use Rattle.search.proofs.slots.words_at.Statement.{statement}
 use Rattle.search.proofs.slots.words_at.Tie as tie
@@ -64,9 +65,10 @@ loop-again c =
     (refl, omega arith, filled-store (inv .2) (omega arith) (c .two .ensures))
 
 returns : tie.Need-returns Inv-loop μ-loop
+unfolding stateAt
 returns c =
     let l = c .before in
-    ap stateOf (filled-end (l .loop .inv .2) (c .loop-test .left)) ∙ loaded _ _ (l .before .shared-slice-known .given)
+    ap stateOf (filled-end (l .loop .inv .2) (c .loop-test .left)) ∙ loaded (l .before .before .args .work .now) (24 * l .before .before .args .i) (l .before .shared-slice-known .given)
 
 pub words-at-spec : {M : Type 1} → statement M
 words-at-spec =

@@ -2,7 +2,7 @@
 use Rattle.tasks.specs.Answers.{writingAnswer}
 use Rattle.tasks.specs.Words.{stateOf}
 use Rattle.tasks.proofs.InWords.{StateBytes, words-state}
-use Rattle.search.specs.Slot.{stateBytes}
+use Rattle.states.specs.Bytes.{stateBytes}
 use Rattle.search.proofs.SlotLaws.{space-short, space-room}
 use lib.Seq.{sets}
 use mathlib.Core.Path.{_≡_, sym, ap, _∙_}

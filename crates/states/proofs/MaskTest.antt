@@ -5,7 +5,7 @@ use mathlib.Core.Bool.{Bool, true, false, not, _&&_, _||_}
 use lib.Dec.{eqb}
 use Rattle.tasks.specs.Lists.{pick}
 use Rattle.tasks.specs.Tick.{bit}
-use Rattle.search.specs.Masks.{nextMask, follows}
+use Rattle.states.specs.Masks.{nextMask, follows}
 
 -- whether every number below n passes the test
 unfoldable pub all : ℕ → (ℕ → Bool) → Bool

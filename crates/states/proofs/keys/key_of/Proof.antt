@@ -1,11 +1,11 @@
 -- By what the words of a key are. Assumes nothing.
 use mathlib.Core.Path.{_∙_}
-use Rattle.search.specs.Slot.{keyOf}
+use Rattle.states.specs.Keys.{keyOf}
 use native.Mathlib.Omega.{arith}
-use Rattle.search.proofs.WordLaws.{key-word}
+use Rattle.states.proofs.WordLaws.{key-word}
 use borrow.Author.Needs.{needs}
-use Rattle.search.proofs.index.key_of.Statement.{statement}
-use Rattle.search.proofs.index.key_of.Tie as tie
+use Rattle.states.proofs.keys.key_of.Statement.{statement}
+use Rattle.states.proofs.keys.key_of.Tie as tie
 
 array-read-double : tie.Need-array-read-double
 array-read-double c = search needs

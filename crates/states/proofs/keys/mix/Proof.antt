@@ -1,9 +1,9 @@
 -- The sum of four products fits. Assumes nothing.
 use mathlib.Core.Path.{refl}
-use Rattle.search.specs.Slot.{mixed}
+use Rattle.states.specs.Keys.{mixed}
 use borrow.Author.Needs.{needs}
-use Rattle.search.proofs.index.mix.Statement.{statement}
-use Rattle.search.proofs.index.mix.Tie as tie
+use Rattle.states.proofs.keys.mix.Statement.{statement}
+use Rattle.states.proofs.keys.mix.Tie as tie
 
 cast-result : tie.Need-cast-result
 cast-result c = search needs

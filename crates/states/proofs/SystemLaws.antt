@@ -34,9 +34,9 @@ use Rattle.levels.specs.Verdict as levels
 use Rattle.levels.specs.Verdict.Tick.{Next, Missed, Refused}
 use Rattle.levels.specs.Verdict.Replay.{Kept, MissedAt, RefusedAt}
 use Rattle.levels.proofs.Replay.{reach-ind}
-use Rattle.search.specs.System.{tickOf, step, system}
-use Rattle.search.proofs.MaskTest.{submask}
-use Rattle.search.proofs.MaskLaws.{submask-legal, legal-submask}
+use Rattle.states.specs.System.{tickOf, step, system}
+use Rattle.states.proofs.MaskTest.{submask}
+use Rattle.states.proofs.MaskLaws.{submask-legal, legal-submask}
 
 module _ (t : Table) (s : State) (m : ℕ) where
   -- a number that is no byte is refused

@@ -1,9 +1,11 @@
 -- The walk through the submasks of a byte visits each of them once, in increasing order; they are the legal masks. Assumes nothing.
 use Prim.Native.Nat.{ℕ, zero, suc, _+_, _-_, _%_, _≤_, _<_}
 use mathlib.Core.Path.{_≡_, refl, sym, ap, _∙_}
+use mathlib.Core.Logic.{_⊎_}
+use mathlib.Core.Logic._⊎_.{inl, inr}
 use mathlib.Core.Bool.{Bool, true, false, not, _||_}
 use native.Mathlib.Omega.{arith}
-use native.Mathlib.Decide.{ℕ-discrete}
+use native.Mathlib.Decide.{ℕ-discrete, decLt}
 use lib.Dec.{eqb}
 use borrow.Author.Tests.{eqb-true, eq-eqb, ne-eqb}
 use Rattle.tasks.specs.Lists.{pick}
@@ -14,8 +16,8 @@ use Rattle.tasks.specs.declared.table.Table.{Table}
 use Rattle.tasks.proofs.Bools.{clash, and-left, and-right, both}
 use Rattle.tasks.proofs.Legal.{legal-bit, bits-legal}
 use Rattle.tasks.proofs.Free.{free-bit, may, may-be}
-use Rattle.search.specs.Masks.{nextMask, follows}
-use Rattle.search.proofs.MaskTest.{all, submask, same, checks, every}
+use Rattle.states.specs.Masks.{nextMask, follows}
+use Rattle.states.proofs.MaskTest.{all, submask, same, checks, every}
 
 same-is : (a b : Bool) → same a b ≡ true → a ≡ b
 same-is true b e = sym e
@@ -98,6 +100,43 @@ next-submask free m f b s = test-next free 256 0 0 refl (all-at 256 (λ x. check
 
 pub no-bits : (free : ℕ) → free < 256 → submask free 0 ≡ true
 no-bits free f = test-first free 256 0 0 refl (all-at 256 (λ x. checks 256 x 0 0) every free f) .is (omega arith)
+
+-- a submask before the one that follows m is before m, or m
+pub passed : {free m : ℕ} → free < 256 → m < 256 → submask free m ≡ true → (q : ℕ) → q < follows free m → submask free q ≡ true → (q < m) ⊎ (q ≡ m)
+passed {free} {m} f b s q h e = go (decLt q m) (ℕ-discrete q m)
+  where
+    go : Dec (q < m) → Dec (q ≡ m) → (q < m) ⊎ (q ≡ m)
+    go (yes l) d = inl l
+    go (no l) (yes z) = inr z
+    go (no l) (no z) = clash e (next-submask free m f b s .gap q (omega arith) h)
+
+-- ---- a walk through the submasks in increasing order
+
+-- it stands at m, and those before it have the property Q
+pub record Walked (Q : ℕ → Type 0) (free m : ℕ) : Type 0 where
+  pub most : m ≤ 256
+  pub is : m < 256 → submask free m ≡ true
+  pub each : (q : ℕ) → q < m → submask free q ≡ true → Q q
+
+module _ (Q : ℕ → Type 0) {free : ℕ} (small : free < 256) where
+  pub walked-start : Walked Q free 0
+  walked-start = record { most = omega arith; is = λ h. no-bits free small; each = λ q h e. absurd (omega arith) }
+
+  pub walked-next : {m : ℕ} → Walked Q free m → m < 256 → Q m → Walked Q free (follows free m)
+  walked-next {m} x h e =
+      let f = next-submask free m small h (x .is h) in
+      record {
+        most = f .most;
+        is = f .is;
+        each = λ q l k. go q k (passed small h (x .is h) q l k);
+      }
+    where
+      go : (q : ℕ) → submask free q ≡ true → (q < m) ⊎ (q ≡ m) → Q q
+      go q k (inl l) = x .each q l k
+      go q k (inr z) = rw z e
+
+  pub walked-falls : {m : ℕ} → Walked Q free m → m < 256 → m < follows free m
+  walked-falls {m} x h = let f = next-submask free m small h (x .is h) in omega (arith, f .up)
 
 -- a difference that wraps
 pub wrapped : (r f m : ℕ) → r < 256 → f < 256 → m < 256 → (r + f) % 256 ≡ m → r ≡ (m + (256 - f)) % 256

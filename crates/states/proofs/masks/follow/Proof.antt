@@ -1,9 +1,9 @@
 -- The next legal mask, or 256 after the last. Assumes nothing.
 use mathlib.Core.Path.{sym, _∙_}
 use borrow.Author.Needs.{needs}
-use Rattle.search.proofs.MaskLaws.{follows-end, follows-on}
-use Rattle.search.proofs.masks.follow.Statement.{statement}
-use Rattle.search.proofs.masks.follow.Tie as tie
+use Rattle.states.proofs.MaskLaws.{follows-end, follows-on}
+use Rattle.states.proofs.masks.follow.Statement.{statement}
+use Rattle.states.proofs.masks.follow.Tie as tie
 
 next-mask-requires : tie.Need-next-mask-requires
 next-mask-requires c κs = search needs

@@ -3,10 +3,10 @@ use mathlib.Core.Path.{ap}
 use native.Mathlib.Omega.{arith}
 use lib.Bits.{bitAnd}
 use borrow.Author.Needs.{needs}
-use Rattle.search.specs.Masks.{nextMask}
-use Rattle.search.proofs.MaskLaws.{wrapped}
-use Rattle.search.proofs.masks.next_mask.Statement.{statement}
-use Rattle.search.proofs.masks.next_mask.Tie as tie
+use Rattle.states.specs.Masks.{nextMask}
+use Rattle.states.proofs.MaskLaws.{wrapped}
+use Rattle.states.proofs.masks.next_mask.Statement.{statement}
+use Rattle.states.proofs.masks.next_mask.Tie as tie
 
 wrapping-sub-u8-requires : tie.Need-wrapping-sub-u8-requires
 wrapping-sub-u8-requires c κs = search needs

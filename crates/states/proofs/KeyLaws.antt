@@ -14,13 +14,15 @@ use borrow.Author.Tests.{eqb-true, eq-eqb}
 use Rattle.tasks.specs.declared.state.State.{State}
 use Rattle.tasks.proofs.Bools.{and-left, and-right, clash}
 use Rattle.tasks.proofs.Fill.{eight-at}
-use Rattle.search.specs.declared.index.Key.{Key}
-use Rattle.search.specs.Slot.{fourAt, stateAt, wordOf, keyOf, keyAt, sameKeys}
+use Rattle.states.specs.declared.keys.Key.{Key}
+use Rattle.states.specs.Bytes.{fourAt}
+use Rattle.states.specs.Bytes.{stateFrom}
+use Rattle.states.specs.Keys.{wordOf, keyOf, keyFrom, sameKeys}
 
--- the key of a slot is that of its state
-pub key-at : (w : List ℕ) (i : ℕ) → keyAt w i ≡ keyOf (stateAt w i)
-unfolding keyAt keyOf wordOf fourAt stateAt
-key-at w i = simp (add-assoc (24 * i), add-zero (24 * i))
+-- the key of bytes is that of their state
+pub key-from : (w : List ℕ) (a : ℕ) → keyFrom w a ≡ keyOf (stateFrom w a)
+unfolding keyOf wordOf fourAt
+key-from w a = simp (add-assoc a, add-zero a)
 
 -- ---- keys are compared
 
@@ -49,13 +51,12 @@ pub record Bytes (s : State) : Type 0 where
   pub c-fits : (k : ℕ) → k < 8 → Fits w8 (getD (s .c) k 0)
   pub p-fits : (k : ℕ) → k < 8 → Fits w8 (getD (s .p) k 0)
 
-pub slot-bytes : (w : List ℕ) (i : ℕ) → ((k : ℕ) → Fits w8 (getD w k 0)) → Bytes (stateAt w i)
-unfolding stateAt
-slot-bytes w i fits = record {
+pub bytes-from : (w : List ℕ) (a : ℕ) → ((k : ℕ) → Fits w8 (getD w k 0)) → Bytes (stateFrom w a)
+bytes-from w a fits = record {
   c-length = refl;
   p-length = refl;
-  c-fits = λ k b. rw (eight-at 0 (λ j. getD w (24 * i + 2 * j) 0) k b) (fits (24 * i + 2 * k));
-  p-fits = λ k b. rw (eight-at 0 (λ j. getD w (24 * i + 2 * j + 1) 0) k b) (fits (24 * i + 2 * k + 1));
+  c-fits = λ k b. rw (eight-at 0 (λ j. getD w (a + 2 * j) 0) k b) (fits (a + 2 * k));
+  p-fits = λ k b. rw (eight-at 0 (λ j. getD w (a + 2 * j + 1) 0) k b) (fits (a + 2 * k + 1));
 }
 
 -- what holds of both numbers of each of four pairs holds below 8

@@ -1,6 +1,6 @@
 // The legal masks of a state, in increasing order.
 ghost use mathlib.Core.Path.{_≡_};
-ghost use Rattle.search.specs.Masks.{nextMask, follows};
+ghost use Rattle.states.specs.Masks.{nextMask, follows};
 
 // The submask of free after m, and 0 after the last.
 fn next_mask(free: u8, m: u8) -> u8
@@ -10,7 +10,7 @@ fn next_mask(free: u8, m: u8) -> u8
 }
 
 // The submask of free after m, and 256 after the last.
-pub(crate) fn follow(free: u8, m: u8) -> u16
+pub fn follow(free: u8, m: u8) -> u16
     ensures { λ r. ⌜ r ≡ follows free m ⌝ }
 {
     let next = next_mask(free, m);

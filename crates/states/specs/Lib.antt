@@ -1,0 +1,5 @@
+pub mod Bytes
+pub mod Keys
+pub mod Masks
+pub mod Miss
+pub mod System

@@ -1,0 +1,13 @@
+// The states of a table: as a transition system, as sixteen bytes and as keys; their legal masks in order, and whether one of them misses.
+// For the layers above: it takes any table and any words, and refuses nothing.
+mod keys;
+mod masks;
+mod miss;
+
+pub use keys::Key;
+pub use keys::joined;
+pub use keys::key_of;
+pub use keys::mix;
+pub use keys::words_of;
+pub use masks::follow;
+pub use miss::has_miss;
