@@ -9,7 +9,7 @@ use lib.Dec.{eqb}
 use borrow.Author.Tests.{eq-eqb, ne-eqb, lt-ltb, le-ltb}
 use Rattle.tasks.specs.Lists.{pick}
 use Rattle.tasks.specs.Table.{tableFault}
-use Rattle.tasks.specs.Sheet.{sheetOf}
+use Rattle.tasks.specs.Sheet.{sheetOf, afterReading}
 use Rattle.tasks.specs.declared.table.Table.{Table}
 use Rattle.tasks.specs.declared.sheet.Reading.{Reading}
 use Rattle.tasks.specs.declared.sheet.Reading.the-variants as Reading
@@ -19,7 +19,7 @@ use Rattle.levels.specs.Slots.{countOf, masksOf}
 use Rattle.levels.proofs.Slots.{rule-same, stored-same, complete-same}
 use Rattle.states.specs.System.{system}
 use Rattle.search.specs.Slot.{Cleared}
-use Rattle.search.specs.Claim.{slotsIn, spacesRefusal, tableRefusal, afterReading, sheetRefusal, Figures, figures, verdictFigures, refusalFigures, Replays, Found, Search}
+use Rattle.search.specs.Claim.{slotsIn, spacesRefusal, tableRefusal, sheetRefusal, Figures, figures, verdictFigures, refusalFigures, Replays, Found, Search}
 use Rattle.search.specs.Keeping.{Spaces, Lent, RanBy, answerOf}
 use Rattle.search.specs.declared.run.SearchAnswer.{SearchAnswer}
 use Rattle.search.specs.declared.run.SearchAnswer.the-variants as SearchAnswer

@@ -7,13 +7,11 @@ use lib.Dec.{eqb, ltb}
 use lib.ListN.{length, take, drop}
 use Rattle.tasks.specs.Lists.{pick}
 use Rattle.tasks.specs.Table.{tableFault}
-use Rattle.tasks.specs.Sheet.{sheetOf}
+use Rattle.tasks.specs.Sheet.{sheetOf, afterReading}
 use Rattle.tasks.specs.Replay.{replayed}
 use Rattle.tasks.specs.declared.table.Table.{Table}
 use Rattle.tasks.specs.declared.play.Outcome.the-variants as Outcome
 use Rattle.tasks.specs.declared.play.ReplayAnswer.the-variants as ReplayAnswer
-use Rattle.tasks.specs.declared.sheet.Reading.{Reading}
-use Rattle.tasks.specs.declared.sheet.Reading.the-variants as Reading
 use Rattle.levels.specs.Verdict.{Answer, Verdict}
 use Rattle.levels.specs.Verdict.Answer.{Unsafe, Safe, NoRoom}
 use Rattle.levels.specs.Slots.{SlotRule, Stored, Complete, countOf, masksOf}
@@ -37,10 +35,6 @@ unfoldable pub tableRefusal : Table → List ℕ → List ℕ → ℕ
 tableRefusal t work trace = pick (ltb 0 (tableFault t)) (tableFault t) (spacesRefusal work trace)
 
 -- a search of a sheet: 1 to 8, then 9 and 10
-abbrev pub afterReading : Reading → ℕ → ℕ
-afterReading Reading.Accepted rest = rest
-afterReading (Reading.Refused r) rest = r
-
 unfoldable pub sheetRefusal : List ℕ → List ℕ → List ℕ → ℕ
 sheetRefusal sheet work trace = afterReading (sheetOf sheet .answer) (spacesRefusal work trace)
 

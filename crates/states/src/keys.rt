@@ -3,7 +3,7 @@ ghost use mathlib.Core.Path.{_≡_};
 ghost use Prim.Native.Nat.{_+_, _*_, _/_, _%_};
 ghost use Rattle.tasks.specs.Words.{stateOf};
 ghost use Rattle.states.specs.Bytes.{four};
-ghost use Rattle.states.specs.Keys.{keyOf, mixed, wordsOf};
+ghost use Rattle.states.specs.Keys.{keyOf, sameKeys, mixed, wordsOf};
 
 pub struct Key {
     pub a: u32,
@@ -64,6 +64,13 @@ pub fn words_of(key: Key) -> [u16; 8]
         low_word(key.d),
         high_word(key.d),
     ]
+}
+
+// Whether two keys are the same.
+pub fn same_keys(k: Key, l: Key) -> bool
+    ensures { λ r. ⌜ r ≡ sameKeys k l ⌝ }
+{
+    (k.a == l.a) & (k.b == l.b) & (k.c == l.c) & (k.d == l.d)
 }
 
 // A sum in which every byte of the key counts. The factors are below 2^30, so it fits.

@@ -8,6 +8,7 @@ pub use keys::Key;
 pub use keys::joined;
 pub use keys::key_of;
 pub use keys::mix;
+pub use keys::same_keys;
 pub use keys::words_of;
 pub use masks::follow;
 pub use miss::has_miss;

@@ -109,6 +109,11 @@ fromPolicy s at =
 unfoldable pub sheetOf : List ℕ → Sheet
 sheetOf s = andThen (fieldAt s 0 3 3 3) (λ fields. fromPolicy s)
 
+-- the refusal of a call that is given a sheet: the sheet's own, or else the rest's
+abbrev pub afterReading : Reading → ℕ → ℕ
+afterReading Reading.Accepted rest = rest
+afterReading (Reading.Refused r) rest = r
+
 -- ---- the writer
 
 -- the bytes of task i

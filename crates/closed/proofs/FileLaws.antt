@@ -1,0 +1,82 @@
+-- The states of a file and their keys: what a lookup by key says of states. Assumes nothing.
+use Prim.Native.Nat.{ℕ, _+_, _*_, _<_}
+use mathlib.Core.Path.{_≡_, refl, sym, ap, _∙_}
+use mathlib.Core.Bool.{Bool, true, false}
+use mathlib.Core.List.{List}
+use native.Mathlib.Omega.{arith}
+use borrow.Author.Count.{below-more}
+use lib.ListN.{getD}
+use mir.Syntax.{w8}
+use mir.Val.{Fits}
+use Rattle.tasks.specs.State.{start}
+use Rattle.tasks.specs.Words.{stateOf}
+use Rattle.tasks.specs.declared.state.State.{State}
+use Rattle.tasks.proofs.Fill.{eight-at}
+use Rattle.levels.specs.Verdict.{Holds}
+use Rattle.states.specs.Keys.{keyOf, sameKeys, wordsOf}
+use Rattle.states.specs.declared.keys.Key.{Key}
+use Rattle.states.proofs.KeyLaws.{key-from, Bytes, bytes-from, one-state, keys-same, keys-differ}
+use Rattle.states.proofs.WordLaws.{words-from}
+use Rattle.closed.specs.Closed.{stateIn}
+use Rattle.closed.specs.Keeping.{keyIn, HeldIs, NamedIs, AfterIs}
+use Rattle.closed.specs.declared.passes.Pass.{Pass}
+
+-- the key of a state of the file
+pub key-in : (file : List ℕ) (i : ℕ) → keyIn file i ≡ keyOf (stateIn file i)
+unfolding keyIn stateIn
+key-in file i = key-from file (16 * i)
+
+file-bytes : (file : List ℕ) (i : ℕ) → ((k : ℕ) → Fits w8 (getD file k 0)) → Bytes (stateIn file i)
+unfolding stateIn
+file-bytes file i fits = bytes-from file (16 * i) fits
+
+-- LAW: a state is known by its key
+pub held : (file : List ℕ) {n : ℕ} (s : State) → ((k : ℕ) → Fits w8 (getD file k 0)) → Bytes s → Holds (keyIn file) n (keyOf s) → Holds (stateIn file) n s
+held file s fits bytes h =
+    record { place = h .place; below = h .below; same = one-state (file-bytes file (h .place) fits) bytes (sym (key-in file (h .place)) ∙ h .same) }
+
+pub held-key : (file : List ℕ) {n : ℕ} (s : State) → Holds (stateIn file) n s → Holds (keyIn file) n (keyOf s)
+held-key file s h = record { place = h .place; below = h .below; same = key-in file (h .place) ∙ ap keyOf (h .same) }
+
+-- ---- what is compared
+
+-- a place that is compared with the key
+pub named : (file : List ℕ) {n : ℕ} (i : ℕ) (key : Key) (b : Bool) → i < n → b ≡ sameKeys (keyIn file i) key → NamedIs file n key b
+named file i key true h e = record { place = i; below = h; same = keys-same (keyIn file i) key (sym e) }
+named file i key false h e = tt
+
+-- none of the first i states has the key
+pub record Scanned (file : List ℕ) (key : Key) (i : ℕ) : Type 0 where
+  pub none : (j : ℕ) → j < i → keyIn file j ≡ key → ⊥
+
+pub scanned-start : {file : List ℕ} {key : Key} → Scanned file key 0
+scanned-start = record { none = λ j h e. omega arith }
+
+pub scanned-next : {file : List ℕ} {key : Key} {i : ℕ} → Scanned file key i → sameKeys (keyIn file i) key ≡ false → Scanned file key (i + 1)
+scanned-next {file} {key} {i} x e = record { none = below-more (λ j. keyIn file j ≡ key → ⊥) i (x .none) (keys-differ (keyIn file i) key e) }
+
+pub scanned-end : {file : List ℕ} {key : Key} {n : ℕ} → Scanned file key n → HeldIs file n key false
+scanned-end x h = x .none (h .place) (h .below) (h .same)
+
+-- ---- what is read
+
+-- LAW: the words of a state of the file
+pub read-state : (file : List ℕ) (i : ℕ) → ((k : ℕ) → Fits w8 (getD file k 0)) → stateOf (wordsOf (keyIn file i)) ≡ stateIn file i
+unfolding keyIn stateIn
+read-state file i fits = words-from file fits (16 * i)
+
+-- a lookup of the state after a mask
+pub after-held :
+    (file : List ℕ) (n : ℕ) (pass : Pass) (due : Bool) (s : State) (r : Bool) → ((k : ℕ) → Fits w8 (getD file k 0)) → Bytes s
+    → HeldIs file n (keyOf s) r → AfterIs file n pass due s r
+after-held file n pass due s true fits bytes h = λ d e. held file s fits bytes h
+after-held file n pass due s false fits bytes h = λ x. h (held-key file s x)
+
+-- the start state has bytes
+pub start-bytes : Bytes start
+start-bytes = record {
+  c-length = refl;
+  p-length = refl;
+  c-fits = λ k b. rw (eight-at {A = ℕ} 0 (λ i. 0) k b) (omega arith);
+  p-fits = λ k b. rw (eight-at {A = ℕ} 0 (λ i. 0) k b) (omega arith);
+}

@@ -1,0 +1,6 @@
+-- Laws that several proofs cite.
+pub mod FileLaws
+pub mod PassLaws
+pub mod InsideLaws
+pub mod RowLaws
+pub mod AnswerLaws

@@ -1,0 +1,171 @@
+-- The invariant: the masks passed that are due lead to states of the file. Assumes nothing.
+use Prim.Native.Nat.{ℕ, _+_, _-_, _*_, _<_}
+use mathlib.Core.Path.{_≡_, sym, ap, _∙_}
+use mathlib.Core.Bool.{Bool, true, false, _&&_, _||_}
+use borrow.Author.Tests.{not-true, not-false}
+use lib.Dec.{leb, ltb}
+use lib.ListN.{getD}
+use Rattle.tasks.specs.Tick.{after}
+use Rattle.tasks.specs.Masks.{freeMask}
+use Rattle.tasks.specs.Words.{stateOf}
+use Rattle.tasks.proofs.InWords.{TableBytes, WordList}
+use Rattle.tasks.proofs.Free.{ticks, frees}
+use Rattle.states.specs.Keys.{wordsOf}
+use Rattle.states.proofs.MaskLaws.{walked-start, walked-next, walked-falls}
+use Rattle.closed.specs.Closed.{stateIn}
+use Rattle.closed.specs.Keeping.{landing}
+use Rattle.closed.proofs.FileLaws.{read-state}
+use Rattle.closed.proofs.RowLaws.{RowTo, Row, row-skipped, row-end, row-open}
+use native.Mathlib.Omega.{arith}
+use borrow.Author.Needs.{needs}
+use Rattle.closed.proofs.passes.row_inside.Statement.{statement}
+use Rattle.closed.proofs.passes.row_inside.Tie as tie
+
+abbrev Inv-loop : tie.InvT-loop
+Inv-loop ticker file cells n split pass i gap kept released free state m₀ m = RowTo ticker file n split pass kept released state free m
+
+abbrev μ-loop : tie.MeasureT-loop
+μ-loop ticker file cells n split pass i gap kept released free state m₀ m = 256 - m
+
+-- where the row began
+abbrev start : tie.At-loop Inv-loop μ-loop → tie.Start Inv-loop μ-loop
+start l = l .before .before .before .before .before .before .before .before .before .before .before .before .before
+
+-- the numbers of the table are bytes, and the words are words
+table-bytes : (c : tie.Start Inv-loop μ-loop) → TableBytes (c .args .t)
+table-bytes c = record { work = λ i h. search needs; deadline = λ i h. search needs; gap = λ i h. search needs }
+
+word-list : (w : tie.After-words-of Inv-loop μ-loop) → WordList (w .words-of .result)
+word-list w = record { word = λ i h. search needs }
+
+-- whether the masks are due, by the gap that was read
+due-is :
+    (g : tie.After-gap-at Inv-loop μ-loop) (released : Bool) {b : Bool} {at : ℕ}
+    → b ≡ (leb (g .before .before .before .before .before .args .pass .low) at && ltb at (g .before .before .before .before .before .args .pass .high))
+    → at ≡ landing (g .before .before .before .before .before .args .split .top) (g .gap-at .result) released
+    → b ≡ (leb (g .before .before .before .before .before .args .pass .low) (landing (g .before .before .before .before .before .args .split .top) (getD (g .before .before .before .before .before .args .file .now) (16 * g .before .before .before .before .before .args .i + 2 * g .before .before .before .before .before .args .split .task + 1) 0) released) && ltb (landing (g .before .before .before .before .before .args .split .top) (getD (g .before .before .before .before .before .args .file .now) (16 * g .before .before .before .before .before .args .i + 2 * g .before .before .before .before .before .args .split .task + 1) 0) released) (g .before .before .before .before .before .args .pass .high))
+due-is g released e f = rw (e, f, g .gap-at .ensures)
+
+-- what the row knows of its state
+row :
+    (l : tie.At-loop Inv-loop μ-loop)
+    → Row (start l .args .t) (start l .args .ticker) (start l .args .file .now) (start l .args .split) (start l .args .pass) (start l .args .i) (l .before .before .before .before .before .before .between .result) (l .before .before .before .before .between2 .result) (l .before .prepare .result) (l .before .before .free .result)
+row l =
+    let s = start l in
+    let w = l .before .before .before .before .before .before .before .before .before in
+    let g = l .before .before .before .before .before .before .before .before in
+    let here : stateOf (w .words-of .result) ≡ stateIn (s .args .file .now) (s .args .i) =
+    ap stateOf (w .words-of .ensures) ∙ ap (λ k. stateOf (wordsOf k)) (w .before .key-in .ensures) ∙ read-state (s .args .file .now) (s .args .i) (l .before .before .before .before .before .before .before .before .before .before .before .before .shared-slice-known .given) in
+    record {
+      keeps = due-is g false (l .before .before .before .before .before .before .between .ensures) (l .before .before .before .before .before .before .before .landing .ensures);
+      releases = due-is g true (l .before .before .before .before .between2 .ensures) (l .before .before .before .before .before .landing2 .ensures);
+      ticks = λ q. ticks (s .args .t) _ (s .pre .0 .made) (l .before .prepare .ensures) (table-bytes s) (word-list w) q ∙ ap (λ u. after (s .args .t) u q) here;
+      frees = frees (s .args .t) _ (s .pre .0 .made) (l .before .before .free .ensures) ∙ ap (freeMask (s .args .t)) here;
+    }
+
+key-in-requires : tie.Need-key-in-requires Inv-loop μ-loop
+key-in-requires c κs =
+    let g = c .before .before .pre in
+    omega (arith, g .0 .given .whole, g .3)
+
+words-of-requires : tie.Need-words-of-requires Inv-loop μ-loop
+words-of-requires c κs = search needs
+
+gap-at-requires : tie.Need-gap-at-requires Inv-loop μ-loop
+gap-at-requires c κs =
+    let g = c .before .before .before .before .pre in
+    (omega (arith, g .0 .given .whole, g .3), g .2)
+
+landing-requires : tie.Need-landing-requires Inv-loop μ-loop
+landing-requires c κs = search needs
+
+between-requires : tie.Need-between-requires Inv-loop μ-loop
+between-requires c κs = search needs
+
+landing-requires-2 : tie.Need-landing-requires-2 Inv-loop μ-loop
+landing-requires-2 c κs = search needs
+
+between-requires-2 : tie.Need-between-requires-2 Inv-loop μ-loop
+between-requires-2 c κs = search needs
+
+returns : tie.Need-returns Inv-loop μ-loop
+returns c =
+    let s = c .before .before .before .before .before .before .before .before .before .before in
+    let g = c .before .before .before .before .before in
+    row-skipped (s .args .t) (s .args .file .now) (s .args .split) (s .args .pass) (s .args .i)
+    (due-is g false (c .before .before .before .between .ensures) (c .before .before .before .before .landing .ensures)) (due-is g true (c .before .between2 .ensures) (c .before .before .landing2 .ensures)) (not-true _ (c .if1 .taken))
+
+free-requires : tie.Need-free-requires Inv-loop μ-loop
+free-requires c κs = search needs
+
+prepare-requires : tie.Need-prepare-requires Inv-loop μ-loop
+prepare-requires c κs = search needs
+
+loop-holds : tie.Need-loop-holds Inv-loop μ-loop
+loop-holds c =
+    walked-start _ (omega (arith, c .before .free .ok))
+
+cast-mask : tie.Need-cast-mask Inv-loop μ-loop
+cast-mask c = search needs
+
+is-due-requires : tie.Need-is-due-requires Inv-loop μ-loop
+is-due-requires c κs = search needs
+
+after-inside-requires : tie.Need-after-inside-requires Inv-loop μ-loop
+after-inside-requires c κs =
+    let p = c .before .before .before .before .before .before .before .before .before .before .before .before .before .before .before .pre in
+    (p .0 .given .whole, p .0 .some, p .1)
+
+returns-2 : tie.Need-returns-2 Inv-loop μ-loop
+returns-2 c =
+    let l = c .before .before .before .before in
+    let s = start l in
+    row-open (row l) (s .pre .0 .given .is) (s .pre .0 .given .valid) (s .pre .3) (l .loop .inv) (c .before .before .before .loop-test .taken)
+    (let none : c .before .after-inside .result ≡ false = not-true (c .before .after-inside .result) (c .if2 .taken) in rw none at (c .before .after-inside .ensures))
+
+follow-requires : tie.Need-follow-requires Inv-loop μ-loop
+follow-requires c κs = search needs
+
+loop-less : tie.Need-loop-less Inv-loop μ-loop
+loop-less c =
+    let l = c .before .before .before .before .before in
+    rw (c .follow .ensures) (omega (arith, walked-falls _ (omega (arith, l .before .before .free .ok)) (l .loop .inv) (c .before .before .before .before .loop-test .taken), l .loop .inv .most))
+
+loop-again : tie.Need-loop-again Inv-loop μ-loop
+loop-again c =
+    let l = c .before .before .before .before .before in
+    let yes : c .before .before .after-inside .result ≡ true = not-false (c .before .before .after-inside .result) (c .before .if2 .left) in
+    let found = rw yes at (c .before .before .after-inside .ensures) in
+    rw (c .follow .ensures)
+    (walked-next _ (omega (arith, l .before .before .free .ok)) (l .loop .inv) (c .before .before .before .before .loop-test .taken) (λ due class. found (c .before .before .before .is-due .ensures ∙ due) class))
+
+returns-3 : tie.Need-returns-3 Inv-loop μ-loop
+returns-3 c =
+    let l = c .before in
+    row-end (row l) (start l .pre .0 .given .is) (l .loop .inv) (c .loop-test .left)
+
+pub row-inside-spec : {M : Type 1} → statement M
+row-inside-spec =
+    tie.close
+    (tie.spec
+    Inv-loop
+    μ-loop
+    key-in-requires
+    words-of-requires
+    gap-at-requires
+    landing-requires
+    between-requires
+    landing-requires-2
+    between-requires-2
+    returns
+    free-requires
+    prepare-requires
+    loop-holds
+    cast-mask
+    is-due-requires
+    after-inside-requires
+    returns-2
+    follow-requires
+    loop-less
+    loop-again
+    returns-3)

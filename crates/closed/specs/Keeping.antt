@@ -1,0 +1,123 @@
+-- Only the checker's bookkeeping, no part of its claim: what its parts ask of each other and promise.
+use mathlib.Core.Path.{_≡_}
+use mathlib.Core.Bool.{Bool, true, false, not}
+use mathlib.Core.List.{List}
+use Prim.Native.Nat.{ℕ, _+_, _-_, _*_, _/_, _%_, _<_, _≤_, min}
+use lib.Bits.{bitAnd}
+use lib.Dec.{eqb}
+use lib.ListN.{length, getD}
+use Rattle.tasks.specs.Lists.{pick}
+use Rattle.tasks.specs.Table.{tableFault}
+use Rattle.tasks.specs.State.{improper}
+use Rattle.tasks.specs.Tick.{illegal, after}
+use Rattle.tasks.specs.Ticker.{tickerOf}
+use Rattle.tasks.specs.declared.state.State.{State}
+use Rattle.tasks.specs.declared.table.Table.{Table}
+use Rattle.tasks.specs.declared.ticker.Ticker.{Ticker}
+use Rattle.levels.specs.Verdict.{Holds}
+use Rattle.levels.specs.Levels.{Calm}
+use Rattle.states.specs.Keys.{keyOf, keyFrom, mixed}
+use Rattle.states.specs.System.{system}
+use Rattle.states.specs.declared.keys.Key.{Key}
+use Rattle.closed.specs.Closed.{statesIn, stateIn, Contains, Closed}
+use Rattle.closed.specs.declared.cells.Probed.{Probed}
+use Rattle.closed.specs.declared.cells.Probed.the-variants as Probed
+use Rattle.closed.specs.declared.passes.Split.{Split}
+use Rattle.closed.specs.declared.passes.Pass.{Pass}
+
+-- ---- lookups
+
+-- the key of state i
+unfoldable pub keyIn : List ℕ → ℕ → Key
+keyIn file i = keyFrom file (16 * i)
+
+-- true where one of the first n states has the key, false where none does
+abbrev pub HeldIs : List ℕ → ℕ → Key → Bool → Type 0
+HeldIs file n key true = Holds (keyIn file) n key
+HeldIs file n key false = Holds (keyIn file) n key → ⊥
+
+-- true where one of the first n states has the key; false says nothing
+abbrev pub NamedIs : List ℕ → ℕ → Key → Bool → Type 0
+NamedIs file n key true = Holds (keyIn file) n key
+NamedIs file n key false = Unit {0}
+
+-- what a walk along so many cells finds: a state with the key, an empty cell, or neither
+abbrev pub ProbeIs : List ℕ → ℕ → Key → ℕ → Probed → Type 0
+ProbeIs file n key cells Probed.Found = Holds (keyIn file) n key
+ProbeIs file n key cells (Probed.Empty at) = at < cells
+ProbeIs file n key cells Probed.Crowded = Unit {0}
+
+-- ---- the pairs of a state and a mask, shared out among passes
+
+-- the class of a key, of so many
+unfoldable pub classOf : ℕ → Key → ℕ
+classOf classes key = (mixed key / 4294967296 + mixed key % 4294967296) / 262144 % classes
+
+-- where a tick takes a task that is `gap` ticks from its next release: it is then so many from it, at most top
+unfoldable pub landing : ℕ → ℕ → Bool → ℕ
+landing top gap released = pick (eqb gap 0) (pick released top 0) (min (gap - 1) top)
+
+-- .. of the task by which the pairs are split: state i and mask m
+unfoldable pub lands : List ℕ → Split → ℕ → ℕ → ℕ
+lands file split i m = landing (split .top) (getD file (16 * i + 2 * split .task + 1) 0) (not (eqb (bitAnd m (split .bit)) 0))
+
+-- the pair of state i and mask m is looked up in this pass
+pub record Due (t : Table) (file : List ℕ) (split : Split) (pass : Pass) (i m : ℕ) : Type 0 where
+  pub low : pass .low ≤ lands file split i m
+  pub high : lands file split i m < pass .high
+  pub class : classOf (pass .classes) (keyOf (after t (stateIn file i) m)) ≡ pass .class
+
+-- the pairs of state i that are due
+pub record RowOf (t : Table) (file : List ℕ) (split : Split) (pass : Pass) (row i m : ℕ) : Type 0 where
+  pub is : i ≡ row
+  pub due : Due t file split pass i m
+
+-- the pairs that land from low to high - 1
+pub record Between (file : List ℕ) (split : Split) (low high i m : ℕ) : Type 0 where
+  pub from : low ≤ lands file split i m
+  pub below : lands file split i m < high
+
+-- every pair
+abbrev pub Every : ℕ → ℕ → Type 0
+Every i m = Unit {0}
+
+-- state s is in the file where it is due and of the pass's class; or it is not in the file
+abbrev pub AfterIs : List ℕ → ℕ → Pass → Bool → State → Bool → Type 0
+AfterIs file n pass due s true = due ≡ true → classOf (pass .classes) (keyOf s) ≡ pass .class → Holds (stateIn file) n s
+AfterIs file n pass due s false = Holds (stateIn file) n s → ⊥
+
+-- ---- what is known so far
+
+-- the file's states are proper, and no mask misses from any
+pub record Sound (t : Table) (file : List ℕ) : Type 0 where
+  pub proper : (i : ℕ) → i < statesIn file → improper t (stateIn file i) ≡ false
+  pub calm : (i : ℕ) → i < statesIn file → Calm (system t) (stateIn file i)
+
+abbrev pub SoundIs : Table → List ℕ → Bool → Type 0
+SoundIs t file true = Sound t file
+SoundIs t file false = Closed t file → ⊥
+
+-- the pairs with the property D lead to states of the file
+pub record Inside (t : Table) (file : List ℕ) (D : ℕ → ℕ → Type 0) : Type 0 where
+  pub inside : (i m : ℕ) → i < statesIn file → m < 256 → illegal t (stateIn file i) m ≡ false → D i m → Contains file (after t (stateIn file i) m)
+
+abbrev pub InsideIs : Table → List ℕ → (ℕ → ℕ → Type 0) → Bool → Type 0
+InsideIs t file D true = Inside t file D
+InsideIs t file D false = Closed t file → ⊥
+
+abbrev pub ClosedIs : Table → List ℕ → Bool → Type 0
+ClosedIs t file true = Closed t file
+ClosedIs t file false = Closed t file → ⊥
+
+-- a valid table, and a file of n whole states
+pub record Given (t : Table) (file : List ℕ) (n : ℕ) : Type 0 where
+  pub valid : tableFault t ≡ 0
+  pub is : n ≡ statesIn file
+  pub whole : 16 * n ≤ length file
+
+-- .. with sound states, the table's ticker and some cells
+pub record Ready (t : Table) (ticker : Ticker) (file cells : List ℕ) (n : ℕ) : Type 0 where
+  pub given : Given t file n
+  pub made : ticker ≡ tickerOf t
+  pub sound : Sound t file
+  pub some : 256 < length cells

@@ -1,0 +1,137 @@
+// The public calls: whether a file of states is closed, for a table and for a sheet.
+ghost use mathlib.Core.Path.{_≡_};
+ghost use Prim.Native.Nat.{_*_, _<_, _≤_};
+ghost use lib.ListN.{length};
+ghost use Rattle.tasks.specs.Table.{tableFault};
+ghost use Rattle.tasks.specs.Ticker.{tickerOf};
+ghost use Rattle.closed.specs.Closed.{fileRefusal, closedAnswer, Judged, TableJudged, SheetJudged};
+ghost use Rattle.closed.specs.Keeping.{Given, SoundIs, ClosedIs};
+use crate::file::key_in;
+use crate::file::scan;
+use crate::passes::all_inside;
+use crate::passes::split_of;
+use states::has_miss;
+use states::key_of;
+use states::words_of;
+use tasks::Reading;
+use tasks::State;
+use tasks::Table;
+use tasks::Ticker;
+
+// The answer to a file: accepted, No, or a refusal's number.
+pub enum ClosedAnswer {
+    Accepted,
+    No,
+    Refused(u8),
+}
+
+// Whether every state of the file is proper, and no mask misses from any.
+fn all_sound(t: Table, ticker: Ticker, file: &[u8], n: usize) -> bool
+    requires { ⌜ Given t (now file) n × (ticker ≡ tickerOf t) ⌝ }
+    ensures { λ r. ⌜ SoundIs t (now (file .entry)) r ⌝ }
+{
+    let mut i: usize = 0;
+    while i < n {
+        let v = words_of(key_in(file, i));
+        if State::of_words(v).improper(t) {
+            return false;
+        }
+        if has_miss(t, ticker, v) {
+            return false;
+        }
+        i += 1;
+    }
+    true
+}
+
+// Whether the file is closed, with the cells given.
+fn closed_with(t: Table, file: &[u8], n: usize, cells: &mut [u32]) -> bool
+    requires { ⌜ Given t (now file) n × (256 < length (now cells)) ⌝ }
+    ensures { λ r. ⌜ ClosedIs t (now (file .entry)) r ⌝ }
+{
+    let ticker = t.ticker();
+    if !all_sound(t, ticker, file, n) {
+        return false;
+    }
+    let start = key_of([0u16; 8]);
+    if !scan(file, n, start) {
+        return false;
+    }
+    all_inside(t, ticker, file, cells, n, split_of(t))
+}
+
+// Up to 12,288 states: 65 KB of cells on the stack.
+fn closed_small(t: Table, file: &[u8], n: usize) -> bool
+    requires { ⌜ Given t (now file) n ⌝ }
+    ensures { λ r. ⌜ ClosedIs t (now (file .entry)) r ⌝ }
+{
+    let mut cells = [0u32; 16640];
+    closed_with(t, file, n, &mut cells)
+}
+
+// More: 1 MB of cells.
+fn closed_large(t: Table, file: &[u8], n: usize) -> bool
+    requires { ⌜ Given t (now file) n ⌝ }
+    ensures { λ r. ⌜ ClosedIs t (now (file .entry)) r ⌝ }
+{
+    let mut cells = [0u32; 262400];
+    closed_with(t, file, n, &mut cells)
+}
+
+// Whether the file is closed, with the cells for n states. It calls itself: the compiler then keeps each size's cells in a frame of their
+// own, so that a small file does not pay a large one's stack.
+fn closed_sized(t: Table, file: &[u8], n: usize, step: usize) -> bool
+    requires { ⌜ Given t (now file) n ⌝ }
+    ensures { λ r. ⌜ ClosedIs t (now (file .entry)) r ⌝ }
+{
+    if 0 < step {
+        return closed_large(t, file, n);
+    }
+    if n <= 12288 {
+        return closed_small(t, file, n);
+    }
+    closed_sized(t, file, n, 1)
+}
+
+// The answer for a valid table.
+fn closed_valid(t: Table, file: &[u8]) -> ClosedAnswer
+    requires { ⌜ tableFault t ≡ 0 ⌝ }
+    ensures { λ r. ⌜ Judged (fileRefusal (now (file .entry))) t (now (file .entry)) (closedAnswer r) ⌝ }
+{
+    let length = file.len();
+    if length == 0 {
+        return ClosedAnswer::Refused(14);
+    }
+    if 0 < length % 16 {
+        return ClosedAnswer::Refused(14);
+    }
+    if closed_sized(t, file, length / 16, 0) {
+        ClosedAnswer::Accepted
+    } else {
+        ClosedAnswer::No
+    }
+}
+
+// Whether a file of states is closed under the ticks of a table.
+pub fn closed_table(t: Table, file: &[u8]) -> ClosedAnswer
+    ensures { λ r. ⌜ TableJudged t (now (file .entry)) (closedAnswer r) ⌝ }
+{
+    let fault = t.fault();
+    if 0 < fault {
+        return ClosedAnswer::Refused(fault);
+    }
+    closed_valid(t, file)
+}
+
+// .. under the ticks of a sheet's table.
+pub fn closed_sheet(sheet: &[u8], file: &[u8]) -> ClosedAnswer
+    ensures { λ r. ⌜ SheetJudged (now (sheet .entry)) (now (file .entry)) (closedAnswer r) ⌝ }
+{
+    let read = tasks::read_sheet(sheet);
+    let answer = read.answer;
+    let t = read.table;
+    match answer {
+        Reading::Accepted => closed_valid(t, file),
+        Reading::Refused(number) => ClosedAnswer::Refused(number),
+    }
+}
