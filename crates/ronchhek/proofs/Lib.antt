@@ -2,3 +2,4 @@
 pub mod VerdictLaws
 pub mod ReplayLaws
 pub mod TableLaws
+pub mod FileLaws

@@ -1,3 +1,4 @@
 pub mod Verdicts
 pub mod Replays
 pub mod Tables
+pub mod Files
