@@ -1,4 +1,4 @@
-/* Ronchhek: verdicts on real-time task tables, the replay of release lists, and task sheets read and written.
+/* Ronchhek: verdicts on real-time task tables, evidence of Safe, the replay of release lists, and task sheets read and written.
  *
  * Link with libronchhek.a (`rt staticlib ronchhek` writes it to target/staticlib/). The calls take any bytes and any lengths
  * and always return. They read and write nothing but the bytes they are lent, take nothing from the heap, make no system
@@ -29,16 +29,20 @@ extern "C" {
 #define RONCHHEK_TABLE_BYTES 27
 #define RONCHHEK_LONGEST_SHEET 52
 
-/* Stack that ronchhek_verdict needs, in bytes, by the slots of the work space, and that ronchhek_replay needs. The heads of the
- * index over the slots stand on the stack: 16 KB, 256 KB or 1 MB by the number of slots, each in a frame of its own. The other
+/* Stack that ronchhek_verdict needs, in bytes, by the slots of the work space, that ronchhek_closed needs, by the states of the
+ * file, and that ronchhek_replay needs. The heads of the index over the slots stand on the stack: 16 KB, 256 KB or 1 MB by the
+ * number of slots, each in a frame of its own. So does the index over a file: 66 KB or 1.05 MB by the number of states. The other
  * calls need no more than ronchhek_replay. tests/outside/stack.c measures these figures.
  */
 #define RONCHHEK_STACK_SMALL 20480     /* up to 16,384 slots */
 #define RONCHHEK_STACK_MEDIUM 266240   /* up to 262,144 slots */
 #define RONCHHEK_STACK_LARGE 1126400   /* more */
 #define RONCHHEK_STACK_REPLAY 20480
+#define RONCHHEK_STACK_CLOSED_SMALL 81920     /* up to 12,288 states */
+#define RONCHHEK_STACK_CLOSED_LARGE 1126400   /* more */
 #define RONCHHEK_SLOTS_SMALL 16384
 #define RONCHHEK_SLOTS_MEDIUM 262144
+#define RONCHHEK_STATES_SMALL 12288
 
 /* A sheet is a series of numbers:
  *
@@ -81,12 +85,18 @@ extern "C" {
  *    6  the tasks are not 1 to 8
  *    7  a task breaks 1 <= C <= D <= P <= 200; ronchhek_write: or an entry after the last task is not 0
  *    8  bytes after the last task; ronchhek_write: the table is longer than 27 bytes (judged right after 1)
- *    9  the work space has no slot                                 (ronchhek_verdict)
+ *    9  the work space has no slot                                 (ronchhek_verdict),
+ *       or fewer slots than states are asked for                   (ronchhek_states)
  *   10  the trace space is shorter than the slots are many         (ronchhek_verdict)
  *   11  a mask's bit for no task, or for a task that may not be released yet
  *                                                                  (ronchhek_replay, with the tick's number)
  *   12  the space for the outcome is too short: 16 bytes of state  (ronchhek_replay),
- *       27 bytes of table (ronchhek_read), the sheet's length      (ronchhek_write)
+ *       27 bytes of table (ronchhek_read), the sheet's length      (ronchhek_write),
+ *       16 bytes for each state                                    (ronchhek_states)
+ *   14  the file is empty or not a whole number of states          (ronchhek_closed),
+ *       or would be empty, since no state is asked for             (ronchhek_states)
+ *
+ * 13 is for a single state that is not proper; no call here answers it.
  */
 
 /* The verdict on a sheet.
@@ -120,6 +130,51 @@ uint64_t ronchhek_verdict(const uint8_t *sheet, size_t sheet_len,
 #define RONCHHEK_KIND(answer) ((unsigned)((answer) >> 48))
 #define RONCHHEK_TICKS(answer) ((uint32_t)((answer) >> 24 & 0xFFFFFF))
 #define RONCHHEK_COUNT(answer) ((uint32_t)((answer) & 0xFFFFFF))
+
+/* Evidence of Safe: whether a file shows, by itself, that no release list misses a deadline.
+ *
+ * A file is states of 16 bytes each, as they stand in the slots: c and p of task 1, then of task 2, .. of task 8. c is the work
+ * left, p the ticks until the task may be released again. The states come in any order, and one may stand there several times.
+ * A file is closed when
+ *
+ *   - the start state, 16 zero bytes, is in it;
+ *   - every state in it is proper: c <= C and p <= P; where c > 0, the slack D - (P - p) - c is 0 or more; tasks that the table
+ *     does not have are 0; and under policies 0 and 2 at most m jobs are started, which means 0 < c < C;
+ *   - every legal mask from each of its states (all bits for tasks of the table with p = 0) leads, without a miss, to a state
+ *     in it.
+ *
+ * Returns kind * 2^48 + N:
+ *
+ *   kind 1, accepted  the file is closed; N is 0.
+ *   kind 2, no        it is not; N is 0. The sheet may be safe all the same: the file may be that of another sheet, or lack
+ *                     a state.
+ *   kind 0, refused   N is the refusal number: 1 to 8 of the sheet, then 14.
+ *
+ * Whoever made an accepted file, no finite release list misses a deadline. And the file of any Safe search, its states copied
+ * out by ronchhek_states, is accepted, also in another order or with repeats. So a file that is kept with a Safe can be checked
+ * without the search, and without trust in whoever kept it.
+ *
+ * Nothing is lent to write. The index over the file only guides the checker. A file made so that its states collide there takes
+ * a time that is quadratic in its length, at worst; the answer is right for every file.
+ */
+uint64_t ronchhek_closed(const uint8_t *sheet, size_t sheet_len,
+                         const uint8_t *states, size_t states_len);
+
+#define RONCHHEK_ACCEPTED 1
+#define RONCHHEK_NO 2
+
+/* The file of a search: the states of the first `count` slots of a work space, in their order. After a Safe with N states,
+ * ronchhek_states(work, work_len, N, out, 16 * N) makes the file for ronchhek_closed. It copies what the slots hold, and judges
+ * none of it.
+ *
+ * Returns kind * 2^48 + N:
+ *
+ *   kind 1, done     N = 16 * count bytes are written at the front of out; later bytes stay. (The kind is RONCHHEK_DONE.)
+ *   kind 0, refused  N is the refusal number: 9 where the work space has fewer than count slots (slots past the millionth are
+ *                    not counted), 12 where out is shorter than 16 * count, 14 where count is 0.
+ */
+uint64_t ronchhek_states(const uint8_t *work, size_t work_len, size_t count,
+                         uint8_t *out, size_t out_len);
 
 /* The replay of a release list, one mask a tick, from the start state of a sheet's table.
  *
