@@ -51,28 +51,45 @@ unsigned long number(const char *what, const char *text, unsigned long most)
     return value;
 }
 
-uint8_t *space(size_t len)
+static uint8_t *resized(uint8_t *bytes, size_t len)
 {
-    uint8_t *bytes = malloc(len ? len : 1);
+    bytes = realloc(bytes, len ? len : 1);
     if (!bytes)
         fail("no memory for %zu bytes", len);
     return bytes;
 }
 
-struct sheet read_sheet(const char *path)
+uint8_t *space(size_t len)
+{
+    return resized(NULL, len);
+}
+
+struct bytes read_bytes(const char *path, size_t most)
 {
     bool input = strcmp(path, "-") == 0;
-    uint8_t front[64];
+    struct bytes read = {NULL, 0};
+    size_t size = 0;
     errno = 0;
     FILE *file = input ? stdin : fopen(path, "rb");
-    size_t len = file ? fread(front, 1, sizeof front, file) : 0;
-    if (!file || ferror(file))
-        fail("%s: %s", input ? "standard input" : path, strerror(errno));
+    while (file && read.len == size && size < most) {
+        size = size > most / 2 ? most : size ? 2 * size : 64;
+        read.at = resized(read.at, size);
+        read.len += fread(read.at + read.len, 1, size - read.len, file);
+    }
+    int cause = errno;
+    if (!file || ferror(file)) {
+        free(read.at);
+        fail("%s: %s", input ? "standard input" : path, strerror(cause));
+    }
     if (!input)
         fclose(file);
-    struct sheet sheet = {space(len), len};
-    memcpy(sheet.bytes, front, len);
-    return sheet;
+    read.at = resized(read.at, read.len);
+    return read;
+}
+
+struct bytes read_sheet(const char *path)
+{
+    return read_bytes(path, 64);
 }
 
 const char *const policy_names[POLICIES] = {"NP-GFP", "P-GFP", "NP-EDF", "P-EDF"};
@@ -88,10 +105,12 @@ const char *reason(unsigned refusal)
         [6] = "the tasks are not 1 to 8",
         [7] = "a task breaks 1 <= C <= D <= P <= 200",
         [8] = "bytes after the last task",
-        [9] = "the work space has no slot",
+        [9] = "the work space has no slot, or fewer than states are asked for",
         [10] = "the trace space is shorter than the slots are many",
         [11] = "a mask's bit for no task, or for a task that may not be released yet",
         [12] = "the space for the outcome is too short",
+        [13] = "the state is not proper",
+        [14] = "the file is empty or not a whole number of states",
     };
     return refusal && refusal < sizeof reasons / sizeof *reasons ? reasons[refusal] : "an unknown refusal";
 }

@@ -8,11 +8,17 @@ static const struct command {
     const char *name, *arguments, *help;
     bool (*run)(struct args *args);
 } commands[] = {
-    {"verdict", "SHEET [--slots K]",
+    {"verdict", "SHEET [--slots K] [--evidence FILE]",
      "    Whether some pattern of releases makes a job late. Prints `safe N`, `unsafe L N` and then the L masks of a shortest\n"
      "    list that misses, one a line, `room K` where the space does not suffice to tell, or `refused R`. K is 0 to 1000000\n"
-     "    slots of 24 bytes, with a trace byte for each; without --slots 2730, in 65520 bytes, with 8192 of trace.\n",
+     "    slots of 24 bytes, with a trace byte for each; without --slots 2730, in 65520 bytes, with 8192 of trace.\n"
+     "    On `safe` --evidence writes the states found to FILE, 16 bytes each, for `evidence`: the whole file or none, and FILE must\n"
+     "    be a regular file or not there yet. On any other answer FILE is left as it is, which a line on standard error says.\n",
      verdict},
+    {"evidence", "SHEET FILE",
+     "    Whether a file of states shows that no pattern of releases makes a job late, whoever made it. Prints `accepted N`\n"
+     "    for a file of N states that does, `no` for one that does not, or `refused R`. FILE may be - for standard input.\n",
+     evidence},
     {"replay", "SHEET [MASK ..]",
      "    Plays a release list, one mask a tick; bit 0 (value 1) releases task 1, bit 7 (value 128) task 8. Prints `kept`, or\n"
      "    `missed T` for the tick that misses, then a line `task I c WORK-LEFT p TICKS-TO-NEXT-RELEASE` for each task; or\n"

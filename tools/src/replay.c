@@ -5,10 +5,10 @@
 #include <stdlib.h>
 
 /* A line for each task of the sheet's table. */
-static void print_state(const struct sheet *sheet, const uint8_t *state)
+static void print_state(const struct bytes *sheet, const uint8_t *state)
 {
     uint8_t table[RONCHHEK_TABLE_BYTES];
-    if (RONCHHEK_KIND(ronchhek_read(sheet->bytes, sheet->len, table, sizeof table)) != RONCHHEK_DONE)
+    if (RONCHHEK_KIND(ronchhek_read(sheet->at, sheet->len, table, sizeof table)) != RONCHHEK_DONE)
         fail("a sheet that was played cannot be read");
     for (unsigned i = 0; i < table[2]; i++)
         printf("task %u c %u p %u\n", i + 1, state[2 * i], state[2 * i + 1]);
@@ -22,9 +22,9 @@ bool replay(struct args *args)
     uint8_t *list = space(ticks), state[RONCHHEK_STATE_BYTES];
     for (size_t i = 0; i < ticks; i++)
         list[i] = (uint8_t)number("mask", args->at[i + 1], 255);
-    struct sheet sheet = read_sheet(args->at[0]);
+    struct bytes sheet = read_sheet(args->at[0]);
 
-    uint64_t answer = ronchhek_replay(sheet.bytes, sheet.len, list, ticks, state, sizeof state);
+    uint64_t answer = ronchhek_replay(sheet.at, sheet.len, list, ticks, state, sizeof state);
     unsigned refusal = RONCHHEK_REPLAY_NUMBER(answer);
     unsigned long long tick = RONCHHEK_REPLAY_TICK(answer);
     if (RONCHHEK_REPLAY_KIND(answer) == RONCHHEK_REPLAY_REFUSED) {
@@ -36,7 +36,7 @@ bool replay(struct args *args)
             printf("missed %llu\n", tick);
         print_state(&sheet, state);
     }
-    free(sheet.bytes);
+    free(sheet.at);
     free(list);
     return true;
 }

@@ -21,13 +21,13 @@ bool show(struct args *args)
 {
     if (args->count != 1)
         return false;
-    struct sheet sheet = read_sheet(args->at[0]);
+    struct bytes sheet = read_sheet(args->at[0]);
     uint8_t table[RONCHHEK_TABLE_BYTES];
-    uint64_t answer = ronchhek_read(sheet.bytes, sheet.len, table, sizeof table);
+    uint64_t answer = ronchhek_read(sheet.at, sheet.len, table, sizeof table);
     if (RONCHHEK_KIND(answer) == RONCHHEK_DONE)
         print_table(table);
     else
         printf("refused %u\n%s\n", RONCHHEK_COUNT(answer), reason(RONCHHEK_COUNT(answer)));
-    free(sheet.bytes);
+    free(sheet.at);
     return true;
 }

@@ -14,6 +14,7 @@ struct args {
 
 /* The subcommands of main.c's table, a file each. False: called with the wrong arguments, and nothing is done. */
 bool verdict(struct args *args);
+bool evidence(struct args *args);
 bool replay(struct args *args);
 bool show(struct args *args);
 bool make(struct args *args);
@@ -30,13 +31,19 @@ unsigned long number(const char *what, const char *text, unsigned long most);
 /* Heap of exactly that many bytes; fails where there is none. */
 uint8_t *space(size_t len);
 
-struct sheet {
-    uint8_t *bytes;
+struct bytes {
+    uint8_t *at;
     size_t len;
 };
 
-/* The sheet in a file, or on standard input for "-". Its first 64 bytes decide every answer, since the longest sheet has 52. */
-struct sheet read_sheet(const char *path);
+/* The bytes of a file, or of standard input for "-", up to `most` of them. */
+struct bytes read_bytes(const char *path, size_t most);
+
+/* The sheet in a file or on standard input. Its first 64 bytes decide every answer, since the longest sheet has 52. */
+struct bytes read_sheet(const char *path);
+
+/* Writes the states of a Safe search, those of its first `count` slots, to a file: all of them, or fails and leaves what was there. */
+void write_evidence(const char *path, const uint8_t *work, size_t work_len, size_t count);
 
 /* The names of the policies, by number. */
 enum { POLICIES = 4 };
