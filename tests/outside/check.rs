@@ -1,7 +1,7 @@
 //! What a call may leave behind: its answer and every byte that it was lent, by document 01's rules.
 
-use crate::calls::{packed_bytes, packed_replay, packed_verdict};
-use crate::model::{Levels, Model, Replay, State, Table, Tick, Verdict};
+use crate::calls::{packed_bytes, packed_closed, packed_replay, packed_verdict};
+use crate::model::{Levels, Model, Replay, State, Table, Tick, Verdict, STATE};
 use std::collections::HashSet;
 
 pub const SLOT: usize = 24;
@@ -20,7 +20,7 @@ pub struct Searched<'a> {
     pub answer: u64,
 }
 
-/// The one space of a call of ronchhek_replay, ronchhek_read or ronchhek_write.
+/// The one space of a call of ronchhek_replay, ronchhek_read, ronchhek_write or ronchhek_states.
 pub struct Called<'a> {
     pub before: &'a [u8],
     pub after: &'a [u8],
@@ -164,7 +164,7 @@ pub fn fitted(bytes: Result<Vec<u8>, u8>, space: usize) -> Result<Vec<u8>, u8> {
     bytes.and_then(|b| if space < b.len() { Err(12) } else { Ok(b) })
 }
 
-/// A call of ronchhek_read or ronchhek_write: the bytes at the front of the space, or the refusal.
+/// A call of ronchhek_read, ronchhek_write or ronchhek_states: the bytes at the front of the space, or the refusal.
 pub fn written(outcome: &Result<Vec<u8>, u8>, c: &Called) -> Result<(), String> {
     let expected = packed_bytes(outcome);
     if c.answer != expected {
@@ -175,4 +175,36 @@ pub fn written(outcome: &Result<Vec<u8>, u8>, c: &Called) -> Result<(), String> 
         return Err(format!("wrote {:?}, expected {bytes:?}", &c.after[..bytes.len()]));
     }
     same("the space", &c.before[bytes.len()..], &c.after[bytes.len()..])
+}
+
+/// The judgement of a file with a sheet, or its refusal: that of the sheet, then 14.
+pub fn closed_outcome(m: &Model, reading: &Result<Table, u8>, file: &[u8]) -> Result<bool, u8> {
+    if file.is_empty() && m.fault == 14 {
+        return Err(14);
+    }
+    m.closed(reading.as_ref().map_err(|r| *r)?, file)
+}
+
+/// A call of ronchhek_closed, to which nothing is lent.
+pub fn judged(outcome: Result<bool, u8>, answer: u64) -> Result<(), String> {
+    let expected = packed_closed(outcome);
+    if answer != expected {
+        return Err(format!("the file is answered {answer:#x}, expected {expected:#x} ({outcome:?})"));
+    }
+    Ok(())
+}
+
+/// The states of the first `count` slots of a work space, or the refusal: 9, 14, then 12 by the space for them.
+pub fn copied(m: &Model, work: &[u8], count: usize, space: usize) -> Result<Vec<u8>, u8> {
+    if space < count.saturating_mul(STATE) && m.fault == 15 {
+        return Err(12);
+    }
+    if count > slots_of(work.len()) {
+        return Err(9);
+    }
+    if count == 0 {
+        return Err(14);
+    }
+    let slots = work.chunks_exact(SLOT).take(count);
+    fitted(Ok(slots.flat_map(|slot| slot[..STATE].to_vec()).collect()), space)
 }

@@ -1,6 +1,7 @@
 /* corpus FOLDER: every line of FOLDER/cases.txt in one process, for valgrind: each space is a heap block of the exact size that
  * nothing wrote to before. The first line of a verdict must be the one expected, the list of an unsafe one must miss at its last
- * tick, and the table of an accepted sheet must give the same sheet again. Ends with status 1 at the first difference. */
+ * tick, the states of a search must be accepted as a file exactly when it is safe, and the table of an accepted sheet must give the
+ * same sheet again. Ends with status 1 at the first difference. */
 #include <stdio.h>
 #include <stdlib.h>
 #include <string.h>
@@ -36,7 +37,27 @@ static uint8_t *load(const char *folder, const char *name, size_t *len)
     return sheet;
 }
 
-/* The verdict's first line, and a replay of its list. */
+/* The states of a search as a file: accepted under safe, and no without the last of them or under another verdict. */
+static void evidence(const char *name, const uint8_t *sheet, size_t len, const uint8_t *work, size_t work_len, uint64_t verdict)
+{
+    size_t count = RONCHHEK_COUNT(verdict), bytes = count * RONCHHEK_STATE_BYTES, less = bytes - RONCHHEK_STATE_BYTES;
+    int safe = RONCHHEK_KIND(verdict) == RONCHHEK_SAFE;
+    uint8_t *file = space(bytes), *shorter = space(less);
+    uint64_t copied = ronchhek_states(work, work_len, count, file, bytes);
+    if (RONCHHEK_KIND(copied) != RONCHHEK_DONE || RONCHHEK_COUNT(copied) != bytes)
+        fail(name, "the states are not copied");
+    uint64_t answer = ronchhek_closed(sheet, len, file, bytes);
+    if (RONCHHEK_KIND(answer) != (safe ? RONCHHEK_ACCEPTED : RONCHHEK_NO))
+        fail(name, "the file of the states is judged otherwise than the search");
+    memcpy(shorter, file, less);
+    answer = ronchhek_closed(sheet, len, shorter, less);
+    if (less ? RONCHHEK_KIND(answer) != RONCHHEK_NO : answer != 14)
+        fail(name, "a file that lacks a state is not answered no");
+    free(file);
+    free(shorter);
+}
+
+/* The verdict's first line, a replay of its list, and its states as a file. */
 static void judge(const char *name, const uint8_t *sheet, size_t len, size_t work_len, size_t trace_len, const char *expected)
 {
     uint8_t *work = space(work_len), *trace = space(trace_len), *state = space(RONCHHEK_STATE_BYTES);
@@ -55,6 +76,8 @@ static void judge(const char *name, const uint8_t *sheet, size_t len, size_t wor
         if (RONCHHEK_REPLAY_KIND(played) != RONCHHEK_REPLAY_MISSED || RONCHHEK_REPLAY_TICK(played) != ticks)
             fail(name, "the list does not miss at its last tick");
     }
+    if (kind != RONCHHEK_REFUSED)
+        evidence(name, sheet, len, work, work_len, answer);
     free(work);
     free(trace);
     free(state);

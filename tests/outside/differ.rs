@@ -1,6 +1,6 @@
 //! Differential test: the library's calls against the independent implementation of model.rs.
 //!
-//!     differ [--seed S] [--sheets N] [--case I] [--fault 1..8] [--corpus DIR]
+//!     differ [--seed S] [--sheets N] [--case I] [--fault 1..15] [--corpus DIR]
 //!
 //! Prints its seed, and at the end what was met. Ends with status 1 at the first difference.
 //! `--case I` runs that sheet of the seed alone. `--fault` seeds a mistake in the independent side.
@@ -8,6 +8,8 @@
 
 mod calls;
 mod check;
+mod evidence;
+mod files;
 mod gen;
 mod model;
 mod rng;
@@ -58,6 +60,14 @@ impl Lent {
         Lent { bytes: before.clone(), before, at, len }
     }
 
+    /// Input in place of a space: it holds these bytes before.
+    fn holding(r: &mut Rng, bytes: &[u8]) -> Lent {
+        let mut lent = Lent::new(r, bytes.len());
+        lent.before[lent.at..lent.at + lent.len].copy_from_slice(bytes);
+        lent.bytes.copy_from_slice(&lent.before);
+        lent
+    }
+
     fn space(&mut self) -> &mut [u8] {
         &mut self.bytes[self.at..self.at + self.len]
     }
@@ -68,6 +78,14 @@ impl Lent {
 
     fn is(&self) -> &[u8] {
         &self.bytes[self.at..self.at + self.len]
+    }
+
+    /// Whether input is as it was, with the bytes around it.
+    fn stays(&self) -> Result<(), String> {
+        if self.before != self.bytes {
+            return Err("a byte of the input or beside it changed".into());
+        }
+        Ok(())
     }
 
     fn around_stays(&self) -> Result<(), String> {
@@ -91,6 +109,16 @@ struct Subject {
     levels: Option<Levels>,
 }
 
+/// What a judged search left.
+struct Found {
+    kind: u64,
+    /// The masks of Unsafe.
+    masks: Vec<u8>,
+    work: Vec<u8>,
+    /// The slots that are written.
+    count: usize,
+}
+
 impl Run {
     fn subject(&self, sheet: Vec<u8>, limit: usize) -> Subject {
         let reading = self.m.read_sheet(&sheet);
@@ -109,7 +137,7 @@ impl Run {
     }
 
     /// One call of the search, judged; then, now and then, one changed byte of its outcome, which must be found.
-    fn search(&mut self, r: &mut Rng, s: &Subject, work_len: usize, trace_len: usize) -> Result<Vec<u8>, String> {
+    fn search(&mut self, r: &mut Rng, s: &Subject, work_len: usize, trace_len: usize) -> Result<Found, String> {
         let mut work = Lent::new(r, work_len);
         let mut trace = Lent::new(r, trace_len);
         let sheet = s.sheet.clone();
@@ -142,13 +170,12 @@ impl Run {
         });
         let masks = if answer >> 48 == 2 { (answer >> 24 & 0xFF_FFFF) as usize } else { 0 };
         self.met.greatest("is the greatest L", masks);
-        if answer >> 48 > 0 {
-            self.met.greatest("is the greatest count", (answer & 0xFF_FFFF) as usize);
-        }
-        let list = trace.is()[..masks].to_vec();
+        let count = if answer >> 48 == 0 { 0 } else { (answer & 0xFF_FFFF) as usize };
+        self.met.greatest("is the greatest count", count);
+        let found = Found { kind: answer >> 48, masks: trace.is()[..masks].to_vec(), work: work.is().to_vec(), count };
         if r.one_in(30) {
             // A state byte, a spare byte, a byte that stays, or the answer.
-            let slots = if answer >> 48 == 0 { 0 } else { (answer & 0xFF_FFFF) as usize * SLOT };
+            let slots = count * SLOT;
             let mut changed = answer;
             match r.below(3) {
                 0 if work_len > 0 => {
@@ -169,7 +196,7 @@ impl Run {
             }
             self.met.add("changed bytes found");
         }
-        Ok(list)
+        Ok(found)
     }
 
     fn replay(&mut self, r: &mut Rng, s: &Subject, list: &[u8], state_len: usize) -> Result<(), String> {
@@ -378,6 +405,7 @@ impl Run {
             Err(n) => format!("sheets refused {n}"),
         });
         self.exchange(r, &s)?;
+        self.evidence(r, &s)?;
         let Some(levels) = &s.levels else {
             for _ in 0..3 {
                 let k = r.below(4);
@@ -410,7 +438,7 @@ impl Run {
                     continue;
                 }
                 let rest = if r.one_in(3) { 0 } else { r.below(SLOT) };
-                let list = self.search(r, &s, k * SLOT + rest, trace)?;
+                let list = self.search(r, &s, k * SLOT + rest, trace)?.masks;
                 if !list.is_empty() && traces.is_empty() {
                     traces.push(list);
                 }
@@ -431,9 +459,12 @@ impl Run {
             if used > 0 && levels.verdict(used).is_some() {
                 let rest = r.below(SLOT);
                 let trace = used + r.below(2);
-                let list = self.search(r, &s, k * SLOT + rest, trace)?;
-                if !list.is_empty() {
-                    traces = vec![list];
+                let found = self.search(r, &s, k * SLOT + rest, trace)?;
+                if !found.masks.is_empty() {
+                    traces = vec![found.masks.clone()];
+                }
+                if *k == last {
+                    self.large_file(r, &s, &found)?;
                 }
                 self.search(r, &s, k * SLOT + rest, used - 1)?;
             }
@@ -531,7 +562,7 @@ impl Run {
             self.search(r, &s, k * SLOT, k)?;
         }
         let s = self.subject(vec![3, 0, 1, 2, 1, 1, 2, 2, 4, 4], LIMIT);
-        let list = self.search(r, &s, 65_520, 8_192)?;
+        let list = self.search(r, &s, 65_520, 8_192)?.masks;
         if list != [2, 1] {
             return Err(format!("masks {list:?}, expected 2, 1"));
         }
@@ -602,6 +633,8 @@ fn whole_run(run: &mut Run, seed: u64, sheets: u64) -> Result<(), String> {
         // A seeded fault is left to the generated sheets.
         run.benchmarks(&mut r).map_err(|e| format!("benchmark tables: {e}"))?;
         run.every_table(&mut r).map_err(|e| format!("every table: {e}"))?;
+        run.sizes_of_files(&mut r).map_err(|e| format!("sizes of files: {e}"))?;
+        run.all_at_once(&mut r).map_err(|e| format!("all tasks at once: {e}"))?;
         for _ in 0..sheets.min(20_000) / 100 {
             let t = gen::tiny_table(&mut r);
             let mut masks: Vec<u8> = (0..1u8 << t.tasks.len()).collect();
@@ -649,9 +682,13 @@ fn complete(met: &Met) -> Result<(), String> {
     all.push("replay refused 11 with a state space too short".into());
     all.extend([1, 2, 3, 4, 5, 6, 7, 8, 12].map(|n| format!("read refused {n:2}")));
     all.extend([1, 4, 5, 6, 7, 8, 12].map(|n| format!("write refused {n:2}")));
+    all.extend([1, 2, 3, 4, 5, 6, 7, 8, 14].map(|n| format!("closed refused {n:2}")));
+    all.extend([9, 12, 14].map(|n| format!("states refused {n:2}")));
+    all.extend(files::MUST.map(|(name, outcome)| format!("file {name}: {outcome}")));
     all.extend((0..4).map(|p| format!("sheets of policy {p}")));
     all.extend(
-        ["Safe", "Unsafe", "No room", "replay Kept", "replay Missed", "read done", "write done"].map(String::from),
+        ["Safe", "Unsafe", "No room", "replay Kept", "replay Missed", "read done", "write done", "states done"]
+            .map(String::from),
     );
     match all.iter().find(|what| met.of(what) < 20) {
         Some(what) => Err(format!("met fewer than 20 times: {what}")),
@@ -706,6 +743,6 @@ fn main() {
 }
 
 fn usage() -> ! {
-    eprintln!("usage: differ [--seed S] [--sheets N] [--case I] [--fault 1..8] [--corpus DIR]");
+    eprintln!("usage: differ [--seed S] [--sheets N] [--case I] [--fault 1..15] [--corpus DIR]");
     std::process::exit(2);
 }

@@ -1,4 +1,4 @@
-//! Fuzz driver: the calls on random sheets, lists, tables and sizes of spaces, with pages that fault on any access
+//! Fuzz driver: the calls on random sheets, lists, tables, files and sizes of spaces, with pages that fault on any access
 //! on both sides of every space. The input stands in pages that fault on a write.
 //!
 //!     fuzz [--seconds S] [--seed S] [--from I] [--cases N]
@@ -9,13 +9,15 @@
 mod calls;
 mod check;
 #[allow(dead_code)]
+mod files;
+#[allow(dead_code)]
 mod gen;
 #[allow(dead_code)]
 mod model;
 mod rng;
 
 use check::{Called, Searched, SLOT};
-use model::{Model, Table, Verdict, TABLE};
+use model::{Model, Table, Verdict, STATE, TABLE};
 use rng::Rng;
 use std::io::Write;
 use std::sync::atomic::{AtomicU64, Ordering};
@@ -117,6 +119,7 @@ struct Spaces {
     state: Fenced,
     work: Fenced,
     trace: Fenced,
+    file: Fenced,
 }
 
 impl Spaces {
@@ -127,6 +130,7 @@ impl Spaces {
             state: Fenced::new(PAGE),
             work: Fenced::new(work),
             trace: Fenced::new(trace),
+            file: Fenced::new(work / SLOT * STATE + 100),
         }
     }
 }
@@ -166,19 +170,19 @@ fn verdict_of(answer: u64) -> Option<Verdict> {
     }
 }
 
-/// A call that is lent one part of the state's page and writes these bytes there, judged.
+/// A call that is lent one part of some pages and writes these bytes there, judged.
 fn written(
     r: &mut Rng,
-    spaces: &Spaces,
+    pages: &Fenced,
     len: usize,
     bytes: Result<Vec<u8>, u8>,
     call: impl Fn(&mut [u8]) -> u64,
 ) -> Result<(), String> {
-    let (lent, before) = lend(r, &spaces.state, len);
-    let answer = call(spaces.state.bytes(&lent));
+    let (lent, before) = lend(r, pages, len);
+    let answer = call(pages.bytes(&lent));
     let told = |e: String| format!("space of {len}, answer {answer:#x}: {e}");
-    beside_stays(&spaces.state, &lent).map_err(told)?;
-    let called = Called { before: &before, after: spaces.state.bytes(&lent), answer };
+    beside_stays(pages, &lent).map_err(told)?;
+    let called = Called { before: &before, after: pages.bytes(&lent), answer };
     check::written(&check::fitted(bytes, len), &called).map_err(told)
 }
 
@@ -187,16 +191,77 @@ fn exchange(r: &mut Rng, m: &Model, spaces: &Spaces, sheet: &[u8], reading: &Res
     let bytes = reading.as_ref().map(|t| m.table_bytes(t)).map_err(|n| *n);
     let table = gen::table_bytes(r, bytes.clone().unwrap_or(vec![0; TABLE]));
     let (input, len) = (put(r, &spaces.input, sheet), r.pick(&[0, TABLE - 1, TABLE, TABLE, TABLE + 1, 60]));
-    written(r, spaces, len, bytes, |space| calls::read(spaces.input.bytes(&input), space))
+    written(r, &spaces.state, len, bytes, |space| calls::read(spaces.input.bytes(&input), space))
         .map_err(|e| format!("sheet {sheet:?} read: {e}"))?;
     let bytes = m.sheet_of_table(&table);
     let full = bytes.as_ref().map_or(30, Vec::len);
     let (input, len) = (put(r, &spaces.list, &table), r.pick(&[0, full - 1, full, full, full + 1, 60]));
-    written(r, spaces, len, bytes, |space| calls::write(spaces.list.bytes(&input), space))
+    written(r, &spaces.state, len, bytes, |space| calls::write(spaces.list.bytes(&input), space))
         .map_err(|e| format!("table {table:?} written: {e}"))
 }
 
-fn case(r: &mut Rng, m: &Model, spaces: &Spaces, most_slots: usize, found: &mut [usize; 5]) -> Result<(), String> {
+/// States copied from the work space of a call, which stands in pages that fault on a write meanwhile.
+fn copies(r: &mut Rng, m: &Model, spaces: &Spaces, work: &Part, count: usize) -> Result<(), String> {
+    let slots = check::slots_of(work.len);
+    let any = r.below(slots + 2);
+    let count = r.pick(&[0, 1, count, count, slots, slots + 1, any, usize::MAX, usize::MAX / STATE + 1]);
+    let exact = if count <= slots + 1 { count * STATE } else { r.below(100) };
+    let len = r.pick(&[0, exact.saturating_sub(1), exact, exact, exact, exact + 1]);
+    spaces.work.access(READ);
+    let bytes = check::copied(m, spaces.work.bytes(work), count, len);
+    let outcome = written(r, &spaces.file, len, bytes, |space| calls::states(spaces.work.bytes(work), count, space));
+    spaces.work.access(READ_WRITE);
+    outcome.map_err(|e| format!("states of {count} slots of {}: {e}", work.len))
+}
+
+/// The file of a search, often damaged, or any bytes.
+fn damaged(r: &mut Rng, own: &[u8]) -> Vec<u8> {
+    let mut file = own.to_vec();
+    match r.below(8) {
+        0..=2 => {}
+        3 if !file.is_empty() => {
+            let at = r.below(file.len());
+            file[at] ^= 1 << r.below(8);
+        }
+        4 => file.truncate(r.below(file.len() + 1)),
+        5 => file.extend(vec![0; r.below(40)]),
+        6 => file = files::random(r).bytes,
+        _ => {
+            file = vec![0; r.below(100)];
+            r.fill(&mut file);
+        }
+    }
+    file
+}
+
+/// A file judged: by the model, or where it has more than a thousand states by the list of answers. Returns the answer's kind.
+fn judge(r: &mut Rng, m: &Model, spaces: &Spaces, sheet: &[u8], file: &[u8], safe: bool) -> Result<usize, String> {
+    let given = put(r, &spaces.file, file);
+    let answer = calls::closed(sheet, spaces.file.bytes(&given));
+    spaces.file.access(READ_WRITE);
+    let reading = m.read_sheet(sheet);
+    let many = reading.is_ok() && file.len() % STATE == 0 && file.len() > 1000 * STATE;
+    let outcome = match answer {
+        _ if safe => Ok(true),
+        0x1_0000_0000_0000 if many => Ok(true),
+        0x2_0000_0000_0000 if many => Ok(false),
+        _ => check::closed_outcome(m, &reading, file),
+    };
+    let shown = &file[..file.len().min(160)];
+    check::judged(outcome, answer).map_err(|e| format!("sheet {sheet:?}, file of {} {shown:?}: {e}", file.len()))?;
+    Ok((answer >> 48) as usize)
+}
+
+/// The states of a search copied, and a file judged; that of a Safe search must be accepted. Returns the answer's kind.
+fn evidence(r: &mut Rng, m: &Model, spaces: &Spaces, sheet: &[u8], work: &Part, answer: u64) -> Result<usize, String> {
+    let count = if answer >> 48 == 0 { 0 } else { (answer & 0xFF_FFFF) as usize };
+    copies(r, m, spaces, work, count)?;
+    let own = check::copied(m, spaces.work.bytes(work), count, usize::MAX).unwrap_or_default();
+    let file = damaged(r, &own);
+    judge(r, m, spaces, sheet, &file, answer >> 48 == 1 && file == own)
+}
+
+fn case(r: &mut Rng, m: &Model, spaces: &Spaces, most_slots: usize, found: &mut [usize; 8]) -> Result<(), String> {
     let sheet = gen::sheet(r);
     let reading = m.read_sheet(&sheet);
     let input = put(r, &spaces.input, &sheet);
@@ -244,6 +309,7 @@ fn case(r: &mut Rng, m: &Model, spaces: &Spaces, most_slots: usize, found: &mut 
         (Err(_), None) => unreachable!(),
     }
     found[(answer >> 48) as usize] += 1;
+    found[5 + evidence(r, m, spaces, spaces.input.bytes(&input), &work, answer)?] += 1;
     let (state_len, played) = (r.pick(&[0, 15, 16, 16, 16, 17, 33]), put(r, &spaces.list, &list));
     let (state, state_before) = lend(r, &spaces.state, state_len);
     let answer = calls::replay(spaces.input.bytes(&input), spaces.list.bytes(&played), spaces.state.bytes(&state));
@@ -276,7 +342,7 @@ fn main() {
     }
     let (small, large) = (Spaces::of(3000 * SLOT, 4096), Spaces::of(1_000_010 * SLOT, 1_000_100));
     let m = Model { fault: 0 };
-    let mut found = [0; 5];
+    let mut found = [0; 8];
     let end = Instant::now() + Duration::from_secs(seconds);
     let mut i = from;
     while i - from < cases && (cases != u64::MAX || Instant::now() < end) {
@@ -295,8 +361,13 @@ fn main() {
         }
         i += 1;
     }
-    let [refused, safe, miss, room, replays] = found;
-    println!("fuzz: {} searches ({safe} Safe, {miss} Unsafe, {room} No room, {refused} refused), {replays} replays, as many sheets read and tables written, no fault", i - from);
+    let [refused, safe, miss, room, replays, unread, accepted, no] = found;
+    println!(
+        "fuzz: {} searches ({safe} Safe, {miss} Unsafe, {room} No room, {refused} refused), {replays} replays",
+        i - from
+    );
+    println!("fuzz: as many copies of states and files ({accepted} accepted, {no} no, {unread} refused)");
+    println!("fuzz: as many sheets read and tables written, no fault");
 }
 
 fn usage() -> ! {

@@ -1,10 +1,13 @@
-//! The rules of document 01 written once more: sheet, table, tick, replay, and a search with plain sets.
-//! Slow and direct; shares nothing with the library. Section names in the comments are document 01's.
+//! The rules of document 01 written once more: sheet, table, tick, replay, and a search with plain sets; and those of closed
+//! lists, of document 02. Slow and direct; shares nothing with the library. Section names in the comments are document 01's.
 //! Tasks are counted from 0 here, so task i of this file is the document's task i + 1.
 
-use std::collections::HashMap;
+use std::collections::{HashMap, HashSet};
 
 pub const TASKS: usize = 8;
+
+/// Bytes of a state.
+pub const STATE: usize = 2 * TASKS;
 
 #[derive(Clone, Copy, PartialEq, Eq, Debug)]
 pub struct Task {
@@ -30,8 +33,8 @@ pub struct State {
 
 impl State {
     /// "The search": c, p of task 1, then task 2 and so on.
-    pub fn bytes(&self) -> [u8; 16] {
-        let mut b = [0; 16];
+    pub fn bytes(&self) -> [u8; STATE] {
+        let mut b = [0; STATE];
         for i in 0..TASKS {
             b[2 * i] = self.left[i];
             b[2 * i + 1] = self.wait[i];
@@ -109,7 +112,7 @@ pub struct Model {
 }
 
 /// Faults that `Model` knows.
-pub const FAULTS: [&str; 8] = [
+pub const FAULTS: [&str; 15] = [
     "under NP an urgent job takes a started job's core",
     "a deadline is tested only when no time is left",
     "a task's rule is judged after all tasks",
@@ -118,6 +121,13 @@ pub const FAULTS: [&str; 8] = [
     "deadline and gap are swapped in a table's 27 bytes",
     "a table's entries after the last task are not looked at",
     "a short state space is judged before the play",
+    "the last state of a file is not looked at",
+    "a state of a file need not be proper",
+    "a miss from a state of a file is let pass",
+    "from a state of a file at most one task is released",
+    "the bytes of a file after its last whole state are not looked at",
+    "an empty file is refused before its sheet is read",
+    "a short space for states is judged before the slots",
 ];
 
 // The sheet.
@@ -390,6 +400,31 @@ impl Model {
             level = next;
             d += 1;
         }
+    }
+
+    // Files of states.
+
+    /// Whether a file is a closed list: it holds the start state, and each of its states is proper and stays within it.
+    /// Refusal 14: it is empty, or not a whole number of states.
+    pub fn closed(&self, t: &Table, file: &[u8]) -> Result<bool, u8> {
+        if file.is_empty() || (file.len() % STATE != 0 && self.fault != 13) {
+            return Err(14);
+        }
+        let listed: Vec<State> = file.chunks_exact(STATE).map(State::from_bytes).collect();
+        let set = |states: &[State]| states.iter().copied().collect::<HashSet<State>>();
+        let held = set(&listed);
+        let judged = if self.fault == 9 { set(&listed[..listed.len() - 1]) } else { held.clone() };
+        let proper = |s| self.fault == 10 || self.proper(t, s);
+        Ok(held.contains(&State::default()) && judged.iter().all(|s| proper(s) && self.stays_within(t, &held, s)))
+    }
+
+    /// Whether every legal mask from a state leads, without a miss, to one of these.
+    pub fn stays_within(&self, t: &Table, held: &HashSet<State>, s: &State) -> bool {
+        (0..=255u8).filter(|mask| self.fault != 12 || mask.count_ones() < 2).all(|mask| match self.tick(t, s, mask) {
+            Tick::Next(next) => held.contains(&next),
+            Tick::Missed(_) => self.fault == 11,
+            Tick::Illegal => true,
+        })
     }
 }
 

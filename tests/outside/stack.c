@@ -1,5 +1,5 @@
 /* Measures the stack that the calls use, on a thread whose stack was filled with a pattern, and compares it with the
- * figures of ronchhek.h. Prints a line for each size of work space; ends with status 1 where a figure is too low. */
+ * figures of ronchhek.h. Prints a line for each size of work space and of file; ends with status 1 where a figure is too low. */
 #include <pthread.h>
 #include <stdio.h>
 #include <stdlib.h>
@@ -10,11 +10,13 @@
 enum { STACK = 4 << 20, PATTERN = 0xA5 };
 
 static const uint8_t sheet[] = {3, 3, 2, 4, 2, 40, 60, 3, 50, 70, 4, 60, 80, 1, 3, 3};
+static const uint8_t one_state[] = {3, 1, 1, 1, 1, 1, 1}; /* its only state is the start state */
 
 struct job {
-    enum { NOTHING, VERDICT, REPLAY, READ, WRITE } kind;
+    enum { NOTHING, VERDICT, REPLAY, READ, WRITE, STATES, ACCEPTED, NO } kind;
     uint8_t *work, *trace;
-    size_t slots;
+    size_t slots;          /* or the states of a file, which are start states in the work space */
+    uint64_t answer;
 };
 
 static void *run(void *given)
@@ -30,6 +32,12 @@ static void *run(void *given)
         ronchhek_read(sheet, sizeof sheet, table, sizeof table);
     if (job->kind == WRITE)
         ronchhek_write(table, sizeof table, out, sizeof out);
+    if (job->kind == STATES)
+        ronchhek_states(job->work, RONCHHEK_SLOT_BYTES, 1, state, sizeof state);
+    if (job->kind == ACCEPTED)
+        job->answer = ronchhek_closed(one_state, sizeof one_state, job->work, job->slots * RONCHHEK_STATE_BYTES);
+    if (job->kind == NO)
+        job->answer = ronchhek_closed(sheet, sizeof sheet, job->work, job->slots * RONCHHEK_STATE_BYTES);
     return NULL;
 }
 
@@ -55,20 +63,39 @@ static size_t used(struct job *job)
     return STACK - low;
 }
 
+/* A file of as many start states, once accepted and once not: whether the larger of both measures is within the header's figure. */
+static int file(struct job job, size_t thread)
+{
+    size_t stated = job.slots <= RONCHHEK_STATES_SMALL ? RONCHHEK_STACK_CLOSED_SMALL : RONCHHEK_STACK_CLOSED_LARGE, most = 0;
+    memset(job.work, 0, job.slots * RONCHHEK_STATE_BYTES);
+    for (job.kind = ACCEPTED; job.kind <= NO; job.kind++) {
+        size_t measured = used(&job) - thread;
+        if (job.answer != (uint64_t)(job.kind == ACCEPTED ? RONCHHEK_ACCEPTED : RONCHHEK_NO) << 48) {
+            fputs("stack: a file is answered otherwise than expected\n", stderr);
+            exit(2);
+        }
+        if (measured > most)
+            most = measured;
+    }
+    printf("stack with a file of %zu states: %zu of %zu\n", job.slots, most, stated);
+    return most <= stated;
+}
+
 int main(void)
 {
     static const size_t slots[] = {1, 2730, 16384, 16385, 65536, 262144, 262145, 1000000};
+    static const size_t states[] = {1, 2730, 12288, 12289, 196608, 1000000, 1500000};
     uint8_t *work = malloc((size_t)RONCHHEK_MOST_SLOTS * RONCHHEK_SLOT_BYTES);
     uint8_t *trace = malloc(RONCHHEK_MOST_SLOTS);
     if (!work || !trace) {
         fputs("stack: no memory\n", stderr);
         return 2;
     }
-    struct job job = {NOTHING, work, trace, 0};
+    struct job job = {NOTHING, work, trace, 0, 0};
     size_t thread = used(&job); /* what a thread itself uses */
     int status = 0;
-    static const char *const names[] = {[REPLAY] = "replay", [READ] = "read", [WRITE] = "write"};
-    for (job.kind = REPLAY; job.kind <= WRITE; job.kind++) {
+    static const char *const names[] = {[REPLAY] = "replay", [READ] = "read", [WRITE] = "write", [STATES] = "copy of states"};
+    for (job.kind = REPLAY; job.kind <= STATES; job.kind++) {
         size_t measured = used(&job) - thread;
         printf("stack of a %s: %zu of %d\n", names[job.kind], measured, RONCHHEK_STACK_REPLAY);
         if (measured > RONCHHEK_STACK_REPLAY)
@@ -83,6 +110,11 @@ int main(void)
         size_t measured = used(&job) - thread;
         printf("stack with %zu slots: %zu of %zu\n", slots[i], measured, stated);
         if (measured > stated)
+            status = 1;
+    }
+    for (size_t i = 0; i < sizeof states / sizeof *states; i++) {
+        job.slots = states[i];
+        if (!file(job, thread))
             status = 1;
     }
     free(work);

@@ -1,0 +1,158 @@
+//! The differential test of evidence: the states of a search copied out, and files of states judged as closed lists.
+
+use crate::check::{self, SLOT};
+use crate::files::{self, File};
+use crate::model::{self, State, STATE};
+use crate::rng::Rng;
+use crate::{calls, table, Found, Lent, Run, Subject, LIMIT};
+
+impl Run {
+    /// One call on a file, judged by the model, and by what is known of the file.
+    fn closed(&mut self, r: &mut Rng, s: &Subject, file: &File) -> Result<(), String> {
+        let told = |e: String| format!("file {}, {} bytes: {e}", file.name, file.bytes.len());
+        let (sheet, lent) = (Lent::holding(r, &s.sheet), Lent::holding(r, &file.bytes));
+        let answer = calls::closed(sheet.is(), lent.is());
+        sheet.stays().map_err(told)?;
+        lent.stays().map_err(told)?;
+        let outcome = check::closed_outcome(&self.m, &s.reading, &file.bytes);
+        check::judged(outcome, answer).map_err(told)?;
+        if file.closed.is_some_and(|known| outcome != Ok(known)) {
+            return Err(told(format!("{outcome:?} by the model and the library, which it is not")));
+        }
+        self.met.add("calls on a file");
+        self.met.add(&match outcome {
+            Ok(closed) => format!("file {}: {}", file.name, if closed { "accepted" } else { "no" }),
+            Err(n) => format!("closed refused {n:2}"),
+        });
+        Ok(())
+    }
+
+    /// The states of the first slots, into a space of that length.
+    fn copy(&mut self, r: &mut Rng, work: &[u8], count: usize, out_len: usize) -> Result<Vec<u8>, String> {
+        let told = |e: String| format!("{count} slots of a work space of {} bytes: {e}", work.len());
+        let (lent, mut out) = (Lent::holding(r, work), Lent::new(r, out_len));
+        let answer = calls::states(lent.is(), count, out.space());
+        lent.stays().map_err(told)?;
+        let copy = out.is().to_vec();
+        let outcome = check::copied(&self.m, work, count, out_len);
+        self.written(r, "states", out, answer, outcome).map_err(told)?;
+        Ok(copy)
+    }
+
+    /// Every edge of the number of slots, with spaces that are too short, just long enough and longer.
+    fn copies(&mut self, r: &mut Rng, found: &Found) -> Result<(), String> {
+        let slots = check::slots_of(found.work.len());
+        for count in [0, 1, found.count, slots, slots + 1, r.below(slots + 2)] {
+            let exact = count * STATE;
+            for len in [exact.saturating_sub(1), exact, exact + r.range(1, 40), r.below(exact + 1)] {
+                self.copy(r, &found.work, count, len)?;
+            }
+        }
+        // Also so many that 16 times as many bytes have no number in 64 bits.
+        let wraps = usize::MAX / STATE + 1;
+        for count in [1_000_001, 1 << 59, wraps, wraps + 1, wraps * (STATE - 1), usize::MAX] {
+            let len = r.pick(&[0, 15, 16, 100]);
+            self.copy(r, &found.work, count, len)?;
+        }
+        Ok(())
+    }
+
+    /// The file of a judged search, and others made of it.
+    fn files(&mut self, r: &mut Rng, s: &Subject, found: &Found) -> Result<(), String> {
+        let t = s.reading.as_ref().unwrap();
+        let states = files::states_of(&self.copy(r, &found.work, found.count, found.count * STATE)?);
+        let mut made = match found.kind {
+            1 => files::of_safe(r, &self.m, t, &states),
+            2 => files::of_unsafe(r, &self.m, t, &states),
+            _ => vec![File::of("of a No room search", &states, Some(false))],
+        };
+        made.extend(files::others(r, &states));
+        for file in &made {
+            self.closed(r, s, file)?;
+        }
+        let t = files::another(r, t);
+        let other = Subject { sheet: model::write_sheet(&t), reading: Ok(t), levels: None };
+        self.closed(r, &other, &File::of("of another policy or number of cores", &states, None))
+    }
+
+    /// Copies and files of one sheet: of a search with all the room that it needs, and of one with any.
+    pub fn evidence(&mut self, r: &mut Rng, s: &Subject) -> Result<(), String> {
+        let Some(levels) = &s.levels else {
+            // Whatever the file is, a sheet that is refused comes first.
+            let made = files::others(r, &[State::default()]);
+            return made.iter().try_for_each(|file| self.closed(r, s, file));
+        };
+        let last = *levels.counts.last().unwrap();
+        for k in [last + r.below(3), r.range(1, last)] {
+            if levels.verdict(k).is_some() {
+                let rest = r.below(SLOT);
+                let found = self.search(r, s, k * SLOT + rest, k)?;
+                self.copies(r, &found)?;
+                self.files(r, s, &found)?;
+            }
+        }
+        Ok(())
+    }
+
+    /// The file of a search of a large table: as it is, shuffled, and each of these without one state.
+    pub fn large_file(&mut self, r: &mut Rng, s: &Subject, found: &Found) -> Result<(), String> {
+        let states = files::states_of(&self.copy(r, &found.work, found.count, found.count * STATE)?);
+        let mixed = files::shuffled(r, &states);
+        let safe = Some(found.kind == 1);
+        let name = if found.kind == 1 { "of a large table" } else { "of a large table that is not safe" };
+        self.closed(r, s, &File::of(name, &states, safe))?;
+        self.closed(r, s, &File::of("of a large table, shuffled", &mixed, safe))?;
+        for file in [states, mixed] {
+            let lacking = files::without_one(r, &file);
+            let no = if lacking.is_empty() { None } else { Some(false) };
+            self.closed(r, s, &File::of("of a large table, without one state", &lacking, no))?;
+        }
+        Ok(())
+    }
+
+    /// Tables with a core too few, in which nothing but the release of all tasks from the start state misses; and tables with
+    /// enough, whose files lack the one state that only this release leads to.
+    pub fn all_at_once(&mut self, r: &mut Rng) -> Result<(), String> {
+        for (n, policy) in (2..=8).flat_map(|n| (0..4).map(move |policy| (n, policy))) {
+            let crowded = table(policy, n as u8 - 1, &[(1, 1, 2); 8][..n]);
+            let s = self.subject(model::write_sheet(&crowded), LIMIT);
+            for file in files::of_unsafe(r, &self.m, &crowded, &[State::default()]) {
+                self.closed(r, &s, &file)?;
+            }
+            let s = self.subject(model::write_sheet(&table(policy, n as u8, &[(1, 1, 2); 8][..n])), LIMIT);
+            let mut states: Vec<State> = s.levels.as_ref().unwrap().depth.keys().copied().collect();
+            self.closed(r, &s, &File::of("of every mask", &states, Some(true)))?;
+            states.retain(|s| s.wait[..n] != [1; 8][..n]);
+            self.closed(r, &s, &File::of("of every mask but one", &states, Some(false)))?;
+        }
+        Ok(())
+    }
+
+    /// Files with as many states as the sizes at which the header's stack figures change, and others, of few that differ; and
+    /// work spaces round the millionth slot.
+    pub fn sizes_of_files(&mut self, r: &mut Rng) -> Result<(), String> {
+        let t = table(1, 1, &[(1, 2, 2), (1, 2, 2)]);
+        let s = self.subject(model::write_sheet(&t), 10);
+        let states: Vec<State> = s.levels.as_ref().unwrap().depth.keys().copied().collect();
+        for n in [12_287, 12_288, 12_289, 196_607, 196_608, 196_609, 1_000_001] {
+            let mut all = files::many(r, &states, n);
+            self.closed(r, &s, &File::of("of many states", &all, Some(true)))?;
+            let few = files::without_one(r, &states);
+            let lacking = files::many(r, &few, n);
+            self.closed(r, &s, &File::of("of many states, one lacking", &lacking, Some(false)))?;
+            all[n - 1].wait[1] = 3;
+            let file = File::of("of many states, the last improper", &all, Some(false));
+            let ragged = files::ragged(r, &file.bytes);
+            self.closed(r, &s, &file)?;
+            self.closed(r, &s, &ragged)?;
+        }
+        let mut work = vec![0; 1_000_001 * SLOT];
+        r.fill(&mut work);
+        for (slots, count) in
+            [(999_999, 1_000_000), (1_000_000, 1_000_000), (1_000_001, 1_000_000), (1_000_001, 1_000_001)]
+        {
+            self.copy(r, &work[..slots * SLOT], count, count * STATE)?;
+        }
+        Ok(())
+    }
+}
