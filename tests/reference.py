@@ -1,15 +1,16 @@
-"""An independent implementation of the verdict engine's paper (document 01), in plain Python.
+"""An independent implementation of the verdict engine's paper (document 01), in plain Python, and of
+the closed lists of document 02.
 
-It is written from the paper alone and shares nothing with the library: it is slow, direct, and
-meant to be read beside the paper. Each function's docstring names the section that it follows.
+It is written from the papers alone and shares nothing with the library: it is slow, direct, and
+meant to be read beside them. Each function's docstring names the section that it follows.
 `tests/make_vectors.py` makes the outside vectors from it.
 
 A sheet and an output are `bytes`. Tasks are counted from 0 here and from 1 in the paper, so task i
 of this file is the paper's task i + 1 and has bit i of a mask.
 """
 from functools import lru_cache
-from itertools import product
-from typing import Iterator, NamedTuple
+from itertools import chain, combinations, product
+from typing import Iterable, Iterator, NamedTuple
 
 TASKS = 8  # entries of a table and of a state
 
@@ -448,9 +449,117 @@ def state_bytes(state: State) -> bytes:
     return bytes(x for pair in zip(state.c, state.p) for x in pair)
 
 
+# ----------------------------------------------------------------------
+# Files of states
+
+STATE = 2 * TASKS  # bytes of a state
+
+
+def state_of(piece: bytes) -> State:
+    """Section "The search": the state of 16 bytes."""
+    return State(tuple(piece[::2]), tuple(piece[1::2]))
+
+
+def file_states(file: bytes) -> list[State]:
+    """Document 02, "A closed list as evidence of Safe": states of 16 bytes each, in any sequence,
+    repeats allowed. Refusal 14: the file is empty or not a whole number of states."""
+    if not file or len(file) % STATE:
+        raise Refused(14)
+    return [state_of(file[at : at + STATE]) for at in range(0, len(file), STATE)]
+
+
+def file_of(states: Iterable[State]) -> bytes:
+    """The file of these states, in their order."""
+    return b"".join(state_bytes(state) for state in states)
+
+
+def closed(table: Table, file: bytes) -> bool:
+    """Document 02, "A closed list as evidence of Safe": the file contains the start state, every
+    state in it is proper, and every legal mask from each leads, without a miss, to a state in it.
+    "Refusals by cause": 4 to 7, then 14."""
+    fault = table_fault(table)
+    if fault:
+        raise Refused(fault)
+    states = set(file_states(file))
+    if START not in states or not all(is_proper(table, state) for state in states):
+        return False
+    after = [step for state in states for step in successors(table, state)]
+    return all(not missed and state in states for _, missed, state in after)
+
+
+def closed_number(sheet: bytes, file: bytes) -> int:
+    """The call for C, given a sheet: kind x 2^48 + N, with kind 1 accepted and 2 no, where N is 0,
+    and kind 0 refused, where N is the refusal: 1 to 8 by the sheet, then 14."""
+    try:
+        return (1 if closed(read_sheet(sheet), file) else 2) * 2**48
+    except Refused as refused:
+        return refused.number
+
+
+def copy_states(work: bytes, count: int, output: bytes) -> tuple[int, bytes]:
+    """The states of the first slots of a work space, copied out in their order: the file at the
+    front of the output, its length is returned, later bytes stay. Refusal 9: there are fewer slots.
+    14: the file would be empty. 12: the output is shorter than the file. The output handed in is
+    not changed: what it becomes is returned."""
+    if count > slots(len(work)):
+        raise Refused(9)
+    if count == 0:
+        raise Refused(14)
+    file = b"".join(work[SLOT * i : SLOT * i + STATE] for i in range(count))
+    if len(output) < len(file):
+        raise Refused(12)
+    return len(file), file + output[len(file) :]
+
+
+def copied_number(work: bytes, count: int, output: bytes) -> int:
+    """The call for C: kind x 2^48 + N, with kind 1 done, where N bytes are written, and kind 0
+    refused, where N is the refusal."""
+    try:
+        return 2**48 + copy_states(work, count, output)[0]
+    except Refused as refused:
+        return refused.number
+
+
+# ----------------------------------------------------------------------
+# What is known without the library
+
+
+def every_file(table: Table) -> Iterator[set[State]]:
+    """Every set of proper states of a small table, but the empty one."""
+    numbers = [range(x + 1) for x in (*table.C, *table.P)]
+    states = [State(both[:TASKS], both[TASKS:]) for both in product(*numbers)]
+    proper = [state for state in states if is_proper(table, state)]
+    return map(set, chain.from_iterable(combinations(proper, k + 1) for k in range(len(proper))))
+
+
+def check_files() -> None:
+    """Document 02, of every file of some small tables: whoever made it, an accepted one means that
+    no list misses, and the states of a Safe search are accepted. Then files in another order, with
+    repeats, without a state, with an improper one; and the refusals."""
+    for policy, tasks in product(range(4), ([(1, 1, 2)], [(2, 2, 3)], [(1, 1, 1), (1, 1, 1)])):
+        table = table_of(policy, 1, tasks)
+        accepted = [states for states in every_file(table) if closed(table, file_of(states))]
+        found = verdict(table, MOST_SLOTS)
+        own, safe = stored_states(table, found), found.kind == "safe"
+        assert safe == (own in accepted) and all(safe and own <= states for states in accepted)
+    two = table_of(P_GFP, 1, [(1, 2, 2), (1, 2, 2)])
+    own = sorted(stored_states(two, verdict(two, 4)))
+    late = State((1,) + START.c[1:], START.p)
+    assert closed(two, file_of(own)) and closed(two, file_of(own[::-1] + own[:2]))
+    assert not any(closed(two, file_of(own[:i] + own[i + 1 :])) for i in range(4))
+    assert not is_proper(two, late) and not closed(two, file_of(own + [late]))
+    assert refusal(closed, two, b"") == 14 and refusal(closed, two, file_of(own)[:-1]) == 14
+    assert refusal(closed, two._replace(m=0), b"") == 5 and closed_number(b"\x04", b"") == 3
+    assert closed_number(sheet_bytes(two), bytes(16)) == 2 * 2**48
+    work = bytes(range(48)) + bytes(10)
+    assert copy_states(work, 2, b"\xff" * 33) == (32, work[:16] + work[24:40] + b"\xff")
+    refused = [copied_number(work, *rest) for rest in ((3, b""), (0, b""), (2, bytes(31)))]
+    assert refused == [9, 14, 12]
+
+
 def self_check() -> None:
     """Section "Benchmark tables": every entry, starred or not. Then demand 3: the levels are those
-    that replaying every list gives."""
+    that replaying every list gives. Then files of states."""
     big = MOST_SLOTS
     two = table_of(P_GFP, 1, [(1, 2, 2), (1, 2, 2)])
     assert verdict(two, big) == ("safe", 0, 4) and verdict(two, 3) == ("room", 0, 3)
@@ -480,6 +589,7 @@ def self_check() -> None:
                 _, least = by_every_list(table, level.ticks + 1)
                 assert level.reached == reached
                 assert level.misses_next == (least == level.ticks + 1)
+    check_files()
 
 
 if __name__ == "__main__":
