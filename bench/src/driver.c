@@ -1,14 +1,9 @@
 /* Times the engines on one sheet: driver FIRST HEX. Each engine is lent the same work and trace space of 1,000,000 slots, touched
    before, and called until a fixed share of time has passed, in turn from the engine numbered FIRST on; the processor time of a
    call is printed in nanoseconds. Every answer, slot and trace is checked first; a disagreement ends the program. */
-#include "engine.h"
+#include "timing.h"
 
-#include <stdio.h>
-#include <stdlib.h>
-#include <string.h>
-#include <time.h>
-
-enum { WORK = SLOT * MOST_SLOTS, FILL = 0xA5, SHARE = 20000000 };
+enum { WORK = SLOT * MOST_SLOTS, FILL = 0xA5 };
 
 static const struct { const char *name; Verdict *call; } engines[] = {
 #ifdef LIBRARY
@@ -24,19 +19,6 @@ static const struct { const char *name; Verdict *call; } engines[] = {
 enum { ENGINES = sizeof engines / sizeof engines[0] };
 
 static uint8_t *work, *trace;
-
-static double now(void)
-{
-    struct timespec t;
-    clock_gettime(CLOCK_PROCESS_CPUTIME_ID, &t);
-    return 1e9 * (double)t.tv_sec + (double)t.tv_nsec;
-}
-
-static void fail(const char *engine, const char *what)
-{
-    fprintf(stderr, "%s: %s\n", engine, what);
-    exit(1);
-}
 
 static uint64_t word(const uint8_t *at)
 {
@@ -86,14 +68,8 @@ int main(int argc, char **argv)
 {
     if (argc != 3) fail("driver", "give the number of the first engine and the sheet in hexadecimal");
     int first = atoi(argv[1]);
-    uint8_t sheet[64];
-    size_t len = strlen(argv[2]) / 2;
-    if (len > sizeof sheet) fail("driver", "sheet too long");
-    for (size_t i = 0; i < len; i++) {
-        unsigned v;
-        if (sscanf(argv[2] + 2 * i, "%2x", &v) != 1) fail("driver", "sheet not hexadecimal");
-        sheet[i] = (uint8_t)v;
-    }
+    uint8_t sheet[MOST_SHEET];
+    size_t len = sheet_of(argv[2], sheet);
     Table t;
     if (read_sheet(sheet, len, &t)) fail("driver", "sheet refused");
     work = malloc(WORK);
@@ -124,7 +100,7 @@ int main(int argc, char **argv)
            (unsigned long long)store_ticks);
     for (int k = 0; k < ENGINES; k++) {
         int e = (k + first) % ENGINES;
-        int calls = once[e] >= SHARE ? 1 : (int)(SHARE / once[e]) + 1;
+        int calls = calls_for(once[e]);
         double from = now();
         for (int i = 0; i < calls; i++)
             if (engines[e].call(sheet, len, work, WORK, trace, MOST_SLOTS) != answer) fail(engines[e].name, "changed answer");
