@@ -2,7 +2,7 @@
 
 use crate::check::{self, SLOT};
 use crate::files::{self, File};
-use crate::model::{self, State, STATE};
+use crate::model::{self, State, Verdict, STATE};
 use crate::rng::Rng;
 use crate::{calls, table, Found, Lent, Run, Subject, LIMIT};
 
@@ -24,6 +24,15 @@ impl Run {
             Ok(closed) => format!("file {}: {}", file.name, if closed { "accepted" } else { "no" }),
             Err(n) => format!("closed refused {n:2}"),
         });
+        Ok(())
+    }
+
+    /// One call on a file of which it is known whether it is closed: for files so large that the model takes seconds for one.
+    fn known(&mut self, s: &Subject, name: &'static str, states: &[State], closed: bool) -> Result<(), String> {
+        let file = File::of(name, states, Some(closed));
+        let answer = calls::closed(&s.sheet, &file.bytes);
+        check::judged(Ok(closed), answer).map_err(|e| format!("file {name}, {} bytes: {e}", file.bytes.len()))?;
+        self.met.add(&format!("file {name}: {}, as is known", if closed { "accepted" } else { "no" }));
         Ok(())
     }
 
@@ -94,18 +103,39 @@ impl Run {
         Ok(())
     }
 
-    /// The file of a search of a large table: as it is, shuffled, and each of these without one state.
+    /// The file of a search of a large table: as it is, shuffled, and without one state.
     pub fn large_file(&mut self, r: &mut Rng, s: &Subject, found: &Found) -> Result<(), String> {
         let states = files::states_of(&self.copy(r, &found.work, found.count, found.count * STATE)?);
-        let mixed = files::shuffled(r, &states);
         let safe = Some(found.kind == 1);
         let name = if found.kind == 1 { "of a large table" } else { "of a large table that is not safe" };
         self.closed(r, s, &File::of(name, &states, safe))?;
+        let mixed = files::shuffled(r, &states);
         self.closed(r, s, &File::of("of a large table, shuffled", &mixed, safe))?;
-        for file in [states, mixed] {
-            let lacking = files::without_one(r, &file);
-            let no = if lacking.is_empty() { None } else { Some(false) };
-            self.closed(r, s, &File::of("of a large table, without one state", &lacking, no))?;
+        let lacking = files::without_one(r, &states);
+        let no = if lacking.is_empty() { None } else { Some(false) };
+        self.closed(r, s, &File::of("of a large table, without one state", &lacking, no))
+    }
+
+    /// Document 000's six tasks on three cores, with 435,379 states: many times without one of them, and with an improper one.
+    pub fn large_files(&mut self, r: &mut Rng) -> Result<(), String> {
+        let t = table(0, 3, &[(1, 4, 4), (2, 6, 6), (3, 8, 8), (4, 10, 10), (5, 12, 12), (6, 14, 14)]);
+        let s = Subject { sheet: model::write_sheet(&t), reading: Ok(t.clone()), levels: None };
+        let n = 435_379;
+        let mut work = vec![0; n * SLOT];
+        let answer = calls::verdict(&s.sheet, &mut work, &mut vec![0; n]);
+        if answer != calls::packed_verdict(Ok(Verdict::Safe(n))) {
+            return Err(format!("{t:?}: answer {answer:#x}, expected {n} states"));
+        }
+        let own = files::states_of(&self.copy(r, &work, n, n * STATE)?);
+        let mixed = files::shuffled(r, &own);
+        self.closed(r, &s, &File::of("of a large table", &own, Some(true)))?;
+        self.known(&s, "of a large table, shuffled", &mixed, true)?;
+        for states in [&own, &mixed] {
+            for _ in 0..10 {
+                self.known(&s, "of a large table, without one state", &files::without_one(r, states), false)?;
+            }
+            let one = files::improper_inwards(r, &self.m, &t, states).ok_or("no improper state leads into it")?;
+            self.known(&s, "of a large table, with an improper state", &files::with(r, states, one), false)?;
         }
         Ok(())
     }
@@ -120,7 +150,7 @@ impl Run {
                 self.closed(r, &s, &file)?;
             }
             let s = self.subject(model::write_sheet(&table(policy, n as u8, &[(1, 1, 2); 8][..n])), LIMIT);
-            let mut states: Vec<State> = s.levels.as_ref().unwrap().depth.keys().copied().collect();
+            let mut states = reached(&s);
             self.closed(r, &s, &File::of("of every mask", &states, Some(true)))?;
             states.retain(|s| s.wait[..n] != [1; 8][..n]);
             self.closed(r, &s, &File::of("of every mask but one", &states, Some(false)))?;
@@ -133,7 +163,7 @@ impl Run {
     pub fn sizes_of_files(&mut self, r: &mut Rng) -> Result<(), String> {
         let t = table(1, 1, &[(1, 2, 2), (1, 2, 2)]);
         let s = self.subject(model::write_sheet(&t), 10);
-        let states: Vec<State> = s.levels.as_ref().unwrap().depth.keys().copied().collect();
+        let states = reached(&s);
         for n in [12_287, 12_288, 12_289, 196_607, 196_608, 196_609, 1_000_001] {
             let mut all = files::many(r, &states, n);
             self.closed(r, &s, &File::of("of many states", &all, Some(true)))?;
@@ -155,4 +185,11 @@ impl Run {
         }
         Ok(())
     }
+}
+
+/// The states that lists reach, in the order of their bytes, so that a seed gives the same run.
+fn reached(s: &Subject) -> Vec<State> {
+    let mut states: Vec<State> = s.levels.as_ref().unwrap().depth.keys().copied().collect();
+    states.sort_by_key(State::bytes);
+    states
 }

@@ -60,7 +60,7 @@ pub fn without_one(r: &mut Rng, states: &[State]) -> Vec<State> {
 }
 
 /// With one more, at the front, at the end or somewhere between.
-fn with(r: &mut Rng, states: &[State], one: State) -> Vec<State> {
+pub fn with(r: &mut Rng, states: &[State], one: State) -> Vec<State> {
     let mut states = states.to_vec();
     let at = match r.below(3) {
         0 => 0,
@@ -116,7 +116,7 @@ fn improper(r: &mut Rng, m: &Model, t: &Table, states: &[State]) -> Option<State
 
 /// A state that is not proper, but from which every legal mask leads, without a miss, to one of these: a job that is late
 /// and ends with this tick, or more started jobs than there are cores.
-fn improper_inwards(r: &mut Rng, m: &Model, t: &Table, states: &[State]) -> Option<State> {
+pub fn improper_inwards(r: &mut Rng, m: &Model, t: &Table, states: &[State]) -> Option<State> {
     let held: HashSet<State> = states.iter().copied().collect();
     let tried = |r: &mut Rng| {
         let mut s = r.pick(states);
