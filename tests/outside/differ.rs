@@ -635,6 +635,7 @@ fn whole_run(run: &mut Run, seed: u64, sheets: u64) -> Result<(), String> {
         run.every_table(&mut r).map_err(|e| format!("every table: {e}"))?;
         run.sizes_of_files(&mut r).map_err(|e| format!("sizes of files: {e}"))?;
         run.all_at_once(&mut r).map_err(|e| format!("all tasks at once: {e}"))?;
+        run.improper_files(&mut r).map_err(|e| format!("improper files: {e}"))?;
         run.large_files(&mut r).map_err(|e| format!("large files: {e}"))?;
         for _ in 0..sheets.min(20_000) / 100 {
             let t = gen::tiny_table(&mut r);

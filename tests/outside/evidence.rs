@@ -1,7 +1,7 @@
 //! The differential test of evidence: the states of a search copied out, and files of states judged as closed lists.
 
 use crate::check::{self, SLOT};
-use crate::files::{self, File};
+use crate::files::{self, Fault, File};
 use crate::model::{self, State, Verdict, STATE};
 use crate::rng::Rng;
 use crate::{calls, table, Found, Lent, Run, Subject, LIMIT};
@@ -154,6 +154,24 @@ impl Run {
             self.closed(r, &s, &File::of("of every mask", &states, Some(true)))?;
             states.retain(|s| s.wait[..n] != [1; 8][..n]);
             self.closed(r, &s, &File::of("of every mask but one", &states, Some(false)))?;
+        }
+        Ok(())
+    }
+
+    /// Under each policy files that are closed but for states improper in each of the ways that there are.
+    pub fn improper_files(&mut self, r: &mut Rng) -> Result<(), String> {
+        for policy in 0..4 {
+            let t = table(policy, 1, &[(2, 6, 7), (2, 6, 8)]);
+            let s = self.subject(model::write_sheet(&t), LIMIT);
+            let states = reached(&s);
+            for (fault, name) in files::IMPROPER {
+                match (0..50).find_map(|_| files::but_improper(r, &self.m, &t, &states, fault)) {
+                    Some(all) => self.closed(r, &s, &File::of(name, &all, Some(false)))?,
+                    // Under the policies that preempt any number of jobs may be started.
+                    None if matches!(fault, Fault::Started) && policy % 2 == 1 => {}
+                    None => return Err(format!("{t:?}: no file is {name}")),
+                }
+            }
         }
         Ok(())
     }

@@ -18,7 +18,7 @@ impl File {
 }
 
 /// What files a full run must have met, each with this answer.
-pub const MUST: [(&str, &str); 20] = [
+pub const MUST: [(&str, &str); 24] = [
     ("of a Safe search", "accepted"),
     ("shuffled", "accepted"),
     ("with repeated states", "accepted"),
@@ -30,7 +30,11 @@ pub const MUST: [(&str, &str); 20] = [
     ("with a state like one of its own", "no"),
     ("with a state like one of its own", "accepted"),
     ("with an improper state", "no"),
-    ("with an improper state that leads into it", "no"),
+    (IMPROPER[0].1, "no"),
+    (IMPROPER[1].1, "no"),
+    (IMPROPER[2].1, "no"),
+    (IMPROPER[3].1, "no"),
+    (IMPROPER[4].1, "no"),
     ("of another policy or number of cores", "no"),
     ("of another policy or number of cores", "accepted"),
     ("of an Unsafe search", "no"),
@@ -97,39 +101,64 @@ fn alike(r: &mut Rng, t: &Table, states: &[State]) -> State {
     s
 }
 
-/// A state that is not proper, by each of the ways that there are.
-fn improper(r: &mut Rng, m: &Model, t: &Table, states: &[State]) -> Option<State> {
-    let n = t.tasks.len();
-    let broken = |r: &mut Rng| {
-        let (mut s, i) = (r.pick(states), r.below(8));
-        match r.below(5) {
-            0 if i < n => s.left[i] = t.tasks[i].work + 1,
-            1 if i < n => s.wait[i] = t.tasks[i].gap + 1,
-            2 if i >= n => s.left[i] = 1,
-            3 if i >= n => s.wait[i] = 1,
-            _ => s = alike(r, t, states),
-        }
-        s
-    };
-    (0..20).map(|_| broken(r)).find(|s| !m.proper(t, s))
+/// The ways in which a state is not proper, and what a file is called that is closed but for such states.
+#[derive(Clone, Copy)]
+pub enum Fault {
+    Work,
+    Gap,
+    Late,
+    Beyond,
+    Started,
 }
 
-/// A state that is not proper, but from which every legal mask leads, without a miss, to one of these: a job that is late
-/// and ends with this tick, or more started jobs than there are cores.
-pub fn improper_inwards(r: &mut Rng, m: &Model, t: &Table, states: &[State]) -> Option<State> {
-    let held: HashSet<State> = states.iter().copied().collect();
-    let tried = |r: &mut Rng| {
-        let mut s = r.pick(states);
-        for _ in 0..r.range(1, 2) {
-            let i = r.below(t.tasks.len());
-            s.left[i] = 1;
-            if r.one_in(2) {
-                s.wait[i] = t.tasks[i].gap - t.tasks[i].deadline;
+pub const IMPROPER: [(Fault, &str); 5] = [
+    (Fault::Work, "closed but for more work than C"),
+    (Fault::Gap, "closed but for a wait longer than P"),
+    (Fault::Late, "closed but for a late job"),
+    (Fault::Beyond, "closed but for a task beyond n"),
+    (Fault::Started, "closed but for more started jobs than cores"),
+];
+
+/// One of the states, made improper in this way and in no other. None where the table has no such state.
+pub fn improper(r: &mut Rng, m: &Model, t: &Table, states: &[State], fault: Fault) -> Option<State> {
+    let (mut s, n) = (r.pick(states), t.tasks.len());
+    let i = r.below(n);
+    let task = t.tasks[i];
+    match fault {
+        Fault::Work if task.work < task.deadline => (s.left[i], s.wait[i]) = (task.work + 1, task.gap),
+        Fault::Gap => (s.left[i], s.wait[i]) = (0, task.gap + 1),
+        // No time is left, so it is late with any work.
+        Fault::Late => (s.left[i], s.wait[i]) = (1, task.gap - task.deadline),
+        Fault::Beyond if n < 8 && r.one_in(2) => s.left[r.range(n, 7)] = 1,
+        Fault::Beyond if n < 8 => s.wait[r.range(n, 7)] = 1,
+        Fault::Started => {
+            for i in (0..n).filter(|&i| t.tasks[i].work > 1) {
+                let task = t.tasks[i];
+                let soonest = (task.gap - task.deadline) as usize + 1;
+                (s.left[i], s.wait[i]) = (1, r.range(soonest, task.gap as usize) as u8);
             }
         }
-        s
-    };
-    (0..60).map(|_| tried(r)).find(|s| !m.proper(t, s) && m.stays_within(t, &held, s))
+        _ => return None,
+    }
+    Some(s).filter(|s| !m.proper(t, s))
+}
+
+/// An improper state from which every legal mask leads, without a miss, to one of these: a late job that ends with this tick.
+pub fn improper_inwards(r: &mut Rng, m: &Model, t: &Table, states: &[State]) -> Option<State> {
+    let held: HashSet<State> = states.iter().copied().collect();
+    (0..60).find_map(|_| improper(r, m, t, states, Fault::Late).filter(|s| m.stays_within(t, &held, s)))
+}
+
+/// The states with an improper one and all that this leads to, where nothing else is wrong with them: none misses.
+pub fn but_improper(r: &mut Rng, m: &Model, t: &Table, states: &[State], fault: Fault) -> Option<Vec<State>> {
+    for _ in 0..4 {
+        if let Some(one) = improper(r, m, t, states, fault) {
+            if let Some((all, true)) = closure(m, t, &with(r, states, one), 2 * states.len() + 200) {
+                return Some(all);
+            }
+        }
+    }
+    None
 }
 
 /// These states and all that they lead to without a miss, and whether none of them misses. None if there are more than `limit`.
@@ -183,11 +212,13 @@ pub fn of_safe(r: &mut Rng, m: &Model, t: &Table, states: &[State]) -> Vec<File>
     made.push(one);
     let other = alike(r, t, states);
     made.push(File::of("with a state like one of its own", &with(r, states, other), None));
-    if let Some(one) = improper(r, m, t, states) {
-        made.push(File::of("with an improper state", &with(r, states, one), Some(false)));
-    }
-    if let Some(one) = improper_inwards(r, m, t, states) {
-        made.push(File::of("with an improper state that leads into it", &with(r, states, one), Some(false)));
+    for (fault, name) in IMPROPER {
+        if let Some(one) = improper(r, m, t, states, fault) {
+            made.push(File::of("with an improper state", &with(r, states, one), Some(false)));
+        }
+        if let Some(all) = but_improper(r, m, t, states, fault) {
+            made.push(File::of(name, &shuffled(r, &all), Some(false)));
+        }
     }
     if let Some(wide) = wider(r, m, t, states) {
         let mixed = repeated(r, &wide);
