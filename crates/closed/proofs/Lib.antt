@@ -4,3 +4,4 @@ pub mod PassLaws
 pub mod InsideLaws
 pub mod RowLaws
 pub mod AnswerLaws
+pub mod Theorems

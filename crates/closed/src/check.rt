@@ -69,13 +69,29 @@ fn closed_small(t: Table, file: &[u8], n: usize) -> bool
     closed_with(t, file, n, &mut cells)
 }
 
+// How many of the cells serve n states: the fewer, the nearer they are to the processor.
+fn cells_for(n: usize) -> usize
+    ensures { λ r. ⌜ (256 < r) × (r ≤ 262400) ⌝ }
+{
+    if n <= 49152 { 65792 } else { 262400 }
+}
+
+// Whether the file is closed, with as many of the cells as serve it.
+fn closed_near(t: Table, file: &[u8], n: usize, cells: &mut [u32]) -> bool
+    requires { ⌜ Given t (now file) n × (length (now cells) ≡ 262400) ⌝ }
+    ensures { λ r. ⌜ ClosedIs t (now (file .entry)) r ⌝ }
+{
+    let serving = cells_for(n);
+    closed_with(t, file, n, &mut cells[..serving])
+}
+
 // More: 1 MB of cells.
 fn closed_large(t: Table, file: &[u8], n: usize) -> bool
     requires { ⌜ Given t (now file) n ⌝ }
     ensures { λ r. ⌜ ClosedIs t (now (file .entry)) r ⌝ }
 {
     let mut cells = [0u32; 262400];
-    closed_with(t, file, n, &mut cells)
+    closed_near(t, file, n, &mut cells)
 }
 
 // Whether the file is closed, with the cells for n states. It calls itself: the compiler then keeps each size's cells in a frame of their

@@ -27,7 +27,7 @@ use Rattle.tasks.specs.declared.play.ReplayAnswer.the-variants as ReplayAnswer
 use Rattle.tasks.specs.declared.play.Replayed.{Replayed}
 use Rattle.tasks.proofs.Bools.{by-bool}
 use Rattle.tasks.proofs.Proper.{start-proper}
-use Rattle.tasks.proofs.Answered.{ticked-refused, ticked-missed, ticked-next, refusal-none, ticked-illegal, ticked-proper}
+use Rattle.tasks.proofs.Answered.{ticked-refused, ticked-missed, ticked-next, refusal-none, refusal-passed, ticked-illegal, ticked-proper}
 use Rattle.tasks.proofs.Played.{replayed-played}
 use Rattle.levels.specs.Verdict.{Replay, Reached, replayFrom, replay}
 use Rattle.levels.specs.Verdict as levels
@@ -56,6 +56,18 @@ module _ (t : Table) (s : State) (m : ℕ) where
         | yes b ↦ step-tick b ∙ ap (λ r. tickOf (r .answer) (r .state)) (sym (ticked-refused t s m h))
         | no b ↦ step-large (omega arith)
       ]
+
+-- LAW: a step that is not refused has a legal mask
+pub step-legal : (t : Table) (s : State) (m : ℕ) → (step t s m ≡ Refused → ⊥) → (m < 256) × (illegal t s m ≡ false)
+step-legal t s m some =
+    elim (decLt m 256) [
+      | yes b ↦
+          elim (decLt 0 (refusal t s m)) [
+            | yes h ↦ absurd (some (step-refused t s m h))
+            | no h ↦ (b, refusal-passed t s m (omega arith) .2)
+          ]
+      | no b ↦ absurd (some (step-large t s m (omega arith)))
+    ]
 
 tick-next : (a : TickAnswer) (s u : State) → tickOf a s ≡ Next u → (a ≡ Answer.Next) × (s ≡ u)
 tick-next Answer.Next s u e = (refl, cc)
