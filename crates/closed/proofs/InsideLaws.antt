@@ -50,33 +50,23 @@ module _ (t : Table) (file : List ℕ) (valid : tableFault t ≡ 0) where
       (i m : ℕ) → i < statesIn file → m < 256 → illegal t (stateIn file i) m ≡ false → (Contains file (after t (stateIn file i) m) → ⊥) → Closed t file → ⊥
   not-inside i m h b legal none x = none (closed-after i m h b legal x)
 
-  missed-answer : (b : Bool) → b ≡ true → pick b Answer.Missed Answer.Next ≡ Answer.Next → ⊥
-  missed-answer true e q = let z : _≡_ {A = ℕ} 0 1 = cc in omega arith
-  missed-answer false e q = clash e refl
-
-  -- .. nor where a legal mask misses
-  pub not-calm : (i m : ℕ) → i < statesIn file → m < 256 → illegal t (stateIn file i) m ≡ false → missed t (after t (stateIn file i) m) ≡ true → Closed t file → ⊥
-  not-calm i m h b legal e x =
-      let q = ticked-legal t (stateIn file i) m valid (x .proper i h) legal in
-      missed-answer (missed t (after t (stateIn file i) m)) e (sym (ap (λ r. r .answer) q) ∙ x .leads i m h b legal .next)
-
   -- LAW: sound states, the start state among them, and every pair inside: the file is closed
   pub all-closed : Sound t file → Contains file start → Inside t file Every → Closed t file
   all-closed sound begins x = record {
     begins = begins;
-    proper = sound .proper;
+    proper = λ i h. sound .state i h .proper;
     leads = λ i m h b legal. leads i m h b legal;
   }
     where
       calm : (i m : ℕ) → i < statesIn file → m < 256 → illegal t (stateIn file i) m ≡ false → missed t (after t (stateIn file i) m) ≡ false
       calm i m h b legal =
           by-bool (missed t (after t (stateIn file i) m))
-          (λ e. absurd (sound .calm i h m (after t (stateIn file i) m) (step-missed t valid (stateIn file i) (sound .proper i h) m b (legal-submask t (stateIn file i) m legal) e)))
+          (λ e. absurd (sound .state i h .calm m (after t (stateIn file i) m) (step-missed t valid (stateIn file i) (sound .state i h .proper) m b (legal-submask t (stateIn file i) m legal) e)))
           (λ e. e)
 
       leads : (i m : ℕ) → i < statesIn file → m < 256 → illegal t (stateIn file i) m ≡ false → Leads t file (stateIn file i) m
       leads i m h b legal =
-          let e = ticked-legal t (stateIn file i) m valid (sound .proper i h) legal in
+          let e = ticked-legal t (stateIn file i) m valid (sound .state i h .proper) legal in
           record {
             next = ap (λ r. r .answer) e ∙ ap (λ b. pick b Answer.Missed Answer.Next) (calm i m h b legal);
             contained = rw (ap (λ r. r .state) e) (x .inside i m h b legal tt);

@@ -2,6 +2,6 @@
 pub mod FileLaws
 pub mod PassLaws
 pub mod InsideLaws
+pub mod Theorems
 pub mod RowLaws
 pub mod AnswerLaws
-pub mod Theorems

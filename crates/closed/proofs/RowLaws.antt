@@ -16,23 +16,26 @@ use Rattle.tasks.specs.Tick.{after, missed}
 use Rattle.tasks.specs.Masks.{freeMask}
 use Rattle.tasks.specs.Words.{stateOf}
 use Rattle.tasks.specs.Ticker.{tickerOf, tickedBy}
+use Rattle.tasks.specs.declared.state.State.{State}
 use Rattle.tasks.specs.declared.table.Table.{Table}
 use Rattle.tasks.specs.declared.ticker.Prepared.{Prepared}
 use Rattle.tasks.specs.declared.ticker.Ticker.{Ticker}
 use Rattle.tasks.proofs.Bools.{by-bool, clash, both, nor-left, nor-right}
 use Rattle.tasks.proofs.More.{full-legal}
-use Rattle.tasks.proofs.Free.{free-full}
+use Rattle.tasks.proofs.Free.{free-small, free-full}
 use Rattle.levels.specs.Verdict.{Holds}
 use Rattle.levels.specs.Levels.{Calm}
 use Rattle.states.specs.Keys.{keyOf}
 use Rattle.states.specs.System.{system}
 use Rattle.states.proofs.MaskTest.{submask}
+use Rattle.states.proofs.SystemLaws.{step-missed}
 use Rattle.states.proofs.MaskLaws.{Walked, submask-legal, legal-submask}
 use Rattle.closed.specs.Closed.{statesIn, stateIn, Contains, Closed}
-use Rattle.closed.specs.Keeping.{classOf, landing, lands, Due, RowOf, Sound, Inside, Ready}
+use Rattle.closed.specs.Keeping.{classOf, landing, lands, Due, RowOf, SoundState, StateIs, Sound, Inside, Ready}
 use Rattle.closed.specs.declared.passes.Split.{Split}
 use Rattle.closed.specs.declared.passes.Pass.{Pass}
-use Rattle.closed.proofs.InsideLaws.{not-inside, not-calm}
+use Rattle.closed.proofs.InsideLaws.{not-inside}
+use Rattle.closed.proofs.Theorems.{closed-calm}
 
 -- ---- the masks of a state
 
@@ -106,31 +109,31 @@ module _ {t : Table} {ticker : Ticker} {file : List ℕ} {split : Split} {pass :
 -- ---- sound states
 
 pub record SoundTo (t : Table) (file : List ℕ) (i : ℕ) : Type 0 where
-  pub proper : (j : ℕ) → j < i → improper t (stateIn file j) ≡ false
-  pub calm : (j : ℕ) → j < i → Calm (system t) (stateIn file j)
+  pub state : (j : ℕ) → j < i → SoundState t (stateIn file j)
 
 pub sound-start : (t : Table) (file : List ℕ) → SoundTo t file 0
-sound-start t file = record { proper = λ j h. absurd (omega arith); calm = λ j h m s e. omega arith }
+sound-start t file = record { state = λ j h. absurd (omega arith) }
 
-pub sound-next :
-    (t : Table) (file : List ℕ) {i : ℕ} → SoundTo t file i → improper t (stateIn file i) ≡ false → Calm (system t) (stateIn file i) → SoundTo t file (i + 1)
-sound-next t file {i} x p c = record {
-  proper = below-more (λ j. improper t (stateIn file j) ≡ false) i (x .proper) p;
-  calm = below-more (λ j. Calm (system t) (stateIn file j)) i (x .calm) c;
-}
+pub sound-next : (t : Table) (file : List ℕ) {i : ℕ} → SoundTo t file i → SoundState t (stateIn file i) → SoundTo t file (i + 1)
+sound-next t file {i} x s = record { state = below-more (λ j. SoundState t (stateIn file j)) i (x .state) s }
 
 pub sound-end : (t : Table) (file : List ℕ) {n i : ℕ} → SoundTo t file i → n ≡ statesIn file → n ≤ i → Sound t file
-sound-end t file x e l = record { proper = λ j h. x .proper j (omega arith); calm = λ j h. x .calm j (omega arith) }
+sound-end t file x e l = record { state = λ j h. x .state j (omega arith) }
 
-pub not-proper : (t : Table) (file : List ℕ) {i n : ℕ} → n ≡ statesIn file → i < n → improper t (stateIn file i) ≡ true → Closed t file → ⊥
-not-proper t file {i} e h bad x = clash bad (x .proper i (omega arith))
+-- a file with a state that is not sound is not closed
+pub not-sound : (t : Table) (file : List ℕ) {i n : ℕ} → n ≡ statesIn file → i < n → (SoundState t (stateIn file i) → ⊥) → Closed t file → ⊥
+not-sound t file {i} e h bad x =
+    bad (record { proper = x .proper i (omega arith); calm = closed-calm x (record { place = i; below = omega arith; same = refl }) })
 
--- the mask of all tasks that may be released misses
-pub full-misses :
-    (t : Table) (file : List ℕ) {i n : ℕ} → tableFault t ≡ 0 → n ≡ statesIn file → i < n → freeMask t (stateIn file i) < 256
-    → missed t (after t (stateIn file i) (freeMask t (stateIn file i))) ≡ true → Closed t file → ⊥
-full-misses t file {i} valid e h small miss =
-    not-calm t file valid i (freeMask t (stateIn file i)) (omega arith) small (full-legal t (stateIn file i) (freeMask t (stateIn file i)) (free-full t (stateIn file i))) miss
+-- a state is sound or not, as its full mask misses or not
+pub full-sound :
+    (t : Table) (s : State) (r : Bool) → tableFault t ≡ 0 → (proper : improper t s ≡ false) → (r ≡ true → Calm (system t) s)
+    → (r ≡ false → missed t (after t s (freeMask t s)) ≡ true) → StateIs t s r
+full-sound t s true valid proper calm miss = record { proper = proper; calm = calm refl }
+full-sound t s false valid proper calm miss = λ x.
+    let full = freeMask t s in
+    x .calm full (after t s full)
+    (step-missed t valid s proper full (free-small t s) (legal-submask t s full (full-legal t s full (free-full t s))) (miss refl))
 
 -- ---- the cells
 

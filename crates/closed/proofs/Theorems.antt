@@ -11,6 +11,7 @@ use Rattle.tasks.specs.declared.state.State.{State}
 use Rattle.tasks.specs.declared.table.Table.{Table}
 use Rattle.levels.specs.Verdict.{Tick, Misses}
 use Rattle.levels.specs.Verdict.Tick.{Next, Missed, Refused}
+use Rattle.levels.specs.Levels.{Calm}
 use Rattle.levels.proofs.Verdicts.{closed-law}
 use Rattle.states.specs.System.{step, system, tickOf}
 use Rattle.states.proofs.SystemLaws.{step-tick, step-legal}
@@ -44,11 +45,15 @@ module _ {t : Table} {file : List ℕ} (x : Closed t file) where
       let same : ticked t s m .state ≡ u = cc in
       rw same at (y .1)
 
+  -- no mask misses from a state of the file
+  pub closed-calm : {s : State} → Contains file s → Calm (system t) s
+  closed-calm {s} h m u e = next-missed (sym (goes s m h (refused-missed e) .0) ∙ e)
+
   -- LAW: no finite release list, legal or not, misses: the `Misses` of demand 3
   pub closed-safe : (l : List ℕ) → Misses (system t) l → ⊥
   closed-safe =
       closed-law (system t) (Contains file) (x .begins) keeps
-      (λ s m u h e. next-missed (sym (goes s m h (refused-missed e) .0) ∙ e))
+      (λ s m u h e. closed-calm h m u e)
 
 -- a file that is accepted is closed
 accepted-closed : {q : ℕ} {t : Table} {file : List ℕ} → Judged q t file (1 ∷ []) → Closed t file

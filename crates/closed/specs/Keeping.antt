@@ -88,10 +88,18 @@ AfterIs file n pass due s false = Holds (stateIn file) n s → ⊥
 
 -- ---- what is known so far
 
--- the file's states are proper, and no mask misses from any
+-- s is proper, and no mask misses from it
+pub record SoundState (t : Table) (s : State) : Type 0 where
+  pub proper : improper t s ≡ false
+  pub calm : Calm (system t) s
+
+abbrev pub StateIs : Table → State → Bool → Type 0
+StateIs t s true = SoundState t s
+StateIs t s false = SoundState t s → ⊥
+
+-- every state of the file
 pub record Sound (t : Table) (file : List ℕ) : Type 0 where
-  pub proper : (i : ℕ) → i < statesIn file → improper t (stateIn file i) ≡ false
-  pub calm : (i : ℕ) → i < statesIn file → Calm (system t) (stateIn file i)
+  pub state : (i : ℕ) → i < statesIn file → SoundState t (stateIn file i)
 
 abbrev pub SoundIs : Table → List ℕ → Bool → Type 0
 SoundIs t file true = Sound t file

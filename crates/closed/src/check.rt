@@ -10,11 +10,10 @@ use crate::file::key_in;
 use crate::file::scan;
 use crate::passes::all_inside;
 use crate::passes::split_of;
-use states::has_miss;
+use crate::sound::is_sound;
 use states::key_of;
 use states::words_of;
 use tasks::Reading;
-use tasks::State;
 use tasks::Table;
 use tasks::Ticker;
 
@@ -32,11 +31,7 @@ fn all_sound(t: Table, ticker: Ticker, file: &[u8], n: usize) -> bool
 {
     let mut i: usize = 0;
     while i < n {
-        let v = words_of(key_in(file, i));
-        if State::of_words(v).improper(t) {
-            return false;
-        }
-        if has_miss(t, ticker, v) {
+        if !is_sound(t, ticker, words_of(key_in(file, i))) {
             return false;
         }
         i += 1;

@@ -4,6 +4,7 @@ mod cells;
 mod check;
 mod file;
 mod passes;
+mod sound;
 
 pub use check::ClosedAnswer;
 pub use check::closed_sheet;

@@ -2,18 +2,30 @@
 ghost use mathlib.Core.Path.{_≡_};
 ghost use Prim.Native.Nat.{_≤_};
 ghost use Rattle.tasks.specs.Ticker.{tickerOf};
+ghost use Rattle.states.specs.Miss.{missBy};
 ghost use Rattle.search.specs.Keeping.{Level, HuntIs};
 use crate::slots::words_at;
 use states::follow;
-use states::has_miss;
+use states::full_misses;
 use tasks::Table;
 use tasks::Ticker;
 use tasks::misses;
+use tasks::tight;
 
 // What a hunt finds: a slot and a mask that misses from it.
 pub(crate) enum HuntAnswer {
     Miss(usize, u8),
     Clear,
+}
+
+// Whether some mask misses from the state in the words, where it is proper.
+fn has_miss(t: Table, ticker: Ticker, v: [u16; 8]) -> bool
+    ensures { λ r. ⌜ r ≡ missBy t ticker v ⌝ }
+{
+    if tight(t, v) {
+        return full_misses(t, ticker, v);
+    }
+    false
 }
 
 // Tries the slots of the level for a miss, and of a slot that has one the legal masks in increasing order.

@@ -21,7 +21,7 @@ use Rattle.tasks.proofs.InWords.{TableBytes, WordList}
 use Rattle.tasks.proofs.NoMiss.{miss-tight}
 use Rattle.levels.specs.Levels.{Calm}
 use Rattle.levels.proofs.Legal.{calm-legal}
-use Rattle.states.specs.Miss.{missBy}
+use Rattle.states.specs.Miss.{fullBy, missBy}
 use Rattle.states.specs.System.{system}
 use Rattle.states.proofs.MaskTest.{submask}
 use Rattle.states.proofs.MaskLaws.{submask-legal}
@@ -50,16 +50,16 @@ module _ (t : Table) (valid : tableFault t ≡ 0) (s : State) (proper : improper
 
   -- LAW: the test of a state by its words
   module _ {v : List ℕ} (here : stateOf v ≡ s) {ticker : Ticker} (is : ticker ≡ tickerOf t) (bytes : TableBytes t) (words : WordList v) where
-    full-tick : missed t (stateOf (tickedBy ticker (preparedBy ticker v) (freeBy ticker v))) ≡ missed t (after t s (freeMask t s))
-    full-tick =
+    pub full-by : fullBy t ticker v ≡ missed t (after t s (freeMask t s))
+    unfolding fullBy
+    full-by =
         ap (missed t) (ticks t v is refl bytes words (freeBy ticker v))
         ∙ ap (λ m. missed t (after t (stateOf v) m)) (frees t v is refl)
         ∙ ap (λ u. missed t (after t u (freeMask t u))) here
 
     pub miss-by : missBy t ticker v ≡ missed t (after t s (freeMask t s))
-    unfolding missBy
     miss-by = by-bool (tight t s)
-        (λ e. rw (here, e) full-tick)
+        (λ e. rw (here, e) full-by)
         (λ e. rw (here, e) (sym (calm-tight e)))
 
     -- no mask misses

@@ -9,6 +9,10 @@ use Rattle.tasks.specs.Ticker.{preparedBy, tickedBy, freeBy}
 use Rattle.tasks.specs.declared.table.Table.{Table}
 use Rattle.tasks.specs.declared.ticker.Ticker.{Ticker}
 
--- some job is tight, and the mask of all tasks that may be released misses; proofs/MissLaws.antt: from a proper state, exactly where some mask does
-unfoldable pub missBy : Table → Ticker → List ℕ → Bool
-missBy t ticker v = tight t (stateOf v) && missed t (stateOf (tickedBy ticker (preparedBy ticker v) (freeBy ticker v)))
+-- the mask of all tasks that may be released misses
+unfoldable pub fullBy : Table → Ticker → List ℕ → Bool
+fullBy t ticker v = missed t (stateOf (tickedBy ticker (preparedBy ticker v) (freeBy ticker v)))
+
+-- .. and some job is tight; proofs/MissLaws.antt: from a proper state, exactly where some mask misses
+abbrev pub missBy : Table → Ticker → List ℕ → Bool
+missBy t ticker v = tight t (stateOf v) && fullBy t ticker v

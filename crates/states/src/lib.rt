@@ -11,4 +11,4 @@ pub use keys::mix;
 pub use keys::same_keys;
 pub use keys::words_of;
 pub use masks::follow;
-pub use miss::has_miss;
+pub use miss::full_misses;
