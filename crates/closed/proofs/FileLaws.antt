@@ -18,8 +18,7 @@ use Rattle.states.specs.declared.keys.Key.{Key}
 use Rattle.states.proofs.KeyLaws.{key-from, Bytes, bytes-from, one-state, keys-same, keys-differ}
 use Rattle.states.proofs.WordLaws.{words-from}
 use Rattle.closed.specs.Closed.{stateIn}
-use Rattle.closed.specs.Keeping.{keyIn, HeldIs, NamedIs, AfterIs}
-use Rattle.closed.specs.declared.passes.Pass.{Pass}
+use Rattle.closed.specs.Keeping.{keyIn, HeldIs, NamedIs}
 
 -- the key of a state of the file
 pub key-in : (file : List ℕ) (i : ℕ) → keyIn file i ≡ keyOf (stateIn file i)
@@ -64,13 +63,6 @@ scanned-end x h = x .none (h .place) (h .below) (h .same)
 pub read-state : (file : List ℕ) (i : ℕ) → ((k : ℕ) → Fits w8 (getD file k 0)) → stateOf (wordsOf (keyIn file i)) ≡ stateIn file i
 unfolding keyIn stateIn
 read-state file i fits = words-from file fits (16 * i)
-
--- a lookup of the state after a mask
-pub after-held :
-    (file : List ℕ) (n : ℕ) (pass : Pass) (due : Bool) (s : State) (r : Bool) → ((k : ℕ) → Fits w8 (getD file k 0)) → Bytes s
-    → HeldIs file n (keyOf s) r → AfterIs file n pass due s r
-after-held file n pass due s true fits bytes h = λ d e. held file s fits bytes h
-after-held file n pass due s false fits bytes h = λ x. h (held-key file s x)
 
 -- the start state has bytes
 pub start-bytes : Bytes start

@@ -40,15 +40,10 @@ module _ (t : Table) (file : List ℕ) (valid : tableFault t ≡ 0) where
   -- ---- a file that is closed
 
   -- LAW: in a closed file the state after a legal mask is in the file
-  closed-after : (i m : ℕ) → i < statesIn file → m < 256 → illegal t (stateIn file i) m ≡ false → Closed t file → Contains file (after t (stateIn file i) m)
+  pub closed-after : (i m : ℕ) → i < statesIn file → m < 256 → illegal t (stateIn file i) m ≡ false → Closed t file → Contains file (after t (stateIn file i) m)
   closed-after i m h b legal x =
       let e = ticked-legal t (stateIn file i) m valid (x .proper i h) legal in
       rw (ap (λ r. r .state) e) at (x .leads i m h b legal .contained)
-
-  -- .. so a file is not closed where it is not
-  pub not-inside :
-      (i m : ℕ) → i < statesIn file → m < 256 → illegal t (stateIn file i) m ≡ false → (Contains file (after t (stateIn file i) m) → ⊥) → Closed t file → ⊥
-  not-inside i m h b legal none x = none (closed-after i m h b legal x)
 
   -- LAW: sound states, the start state among them, and every pair inside: the file is closed
   pub all-closed : Sound t file → Contains file start → Inside t file Every → Closed t file

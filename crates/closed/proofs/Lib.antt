@@ -3,5 +3,6 @@ pub mod FileLaws
 pub mod PassLaws
 pub mod InsideLaws
 pub mod Theorems
+pub mod PendingLaws
 pub mod RowLaws
 pub mod AnswerLaws

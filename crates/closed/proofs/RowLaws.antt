@@ -4,15 +4,18 @@ use mathlib.Core.Path.{_≡_, refl, sym, ap, _∙_}
 use mathlib.Core.Bool.{Bool, true, false, not, _&&_, _||_}
 use mathlib.Core.List.{List}
 use native.Mathlib.Omega.{arith}
+use native.Mathlib.Decide.{decLt}
 use borrow.Author.Count.{below-more}
 use borrow.Author.Tests.{le-leb, lt-ltb}
 use lib.Bits.{bitAnd}
 use lib.Dec.{eqb, leb, ltb}
 use lib.ListN.{length, getD}
+use mir.Syntax.{w8}
+use mir.Val.{Fits}
 use Rattle.tasks.specs.Lists.{pick}
 use Rattle.tasks.specs.Table.{tableFault}
 use Rattle.tasks.specs.State.{improper}
-use Rattle.tasks.specs.Tick.{after, missed}
+use Rattle.tasks.specs.Tick.{illegal, after, missed}
 use Rattle.tasks.specs.Masks.{freeMask}
 use Rattle.tasks.specs.Words.{stateOf}
 use Rattle.tasks.specs.Ticker.{tickerOf, tickedBy}
@@ -26,26 +29,64 @@ use Rattle.tasks.proofs.Free.{free-small, free-full}
 use Rattle.levels.specs.Verdict.{Holds}
 use Rattle.levels.specs.Levels.{Calm}
 use Rattle.states.specs.Keys.{keyOf}
+use Rattle.states.specs.Masks.{follows}
+use Rattle.states.specs.declared.keys.Key.{Key}
 use Rattle.states.specs.System.{system}
 use Rattle.states.proofs.MaskTest.{submask}
 use Rattle.states.proofs.SystemLaws.{step-missed}
-use Rattle.states.proofs.MaskLaws.{Walked, submask-legal, legal-submask}
+use Rattle.states.proofs.MaskLaws.{Walked, walked-start, walked-next, submask-legal, legal-submask}
 use Rattle.closed.specs.Closed.{statesIn, stateIn, Contains, Closed}
-use Rattle.closed.specs.Keeping.{classOf, landing, lands, Due, RowOf, SoundState, StateIs, Sound, Inside, Ready}
+use Rattle.closed.specs.Keeping.{classOf, landing, lands, Due, RowOf, SoundState, StateIs, Sound, Ready, keyAt, AllHeld, Grown, AfterWaits, From, RowWaits}
 use Rattle.closed.specs.declared.passes.Split.{Split}
 use Rattle.closed.specs.declared.passes.Pass.{Pass}
-use Rattle.closed.proofs.InsideLaws.{not-inside}
 use Rattle.closed.proofs.Theorems.{closed-calm}
+use Rattle.closed.proofs.PendingLaws.{grown-not, grown-next, held-before}
 
 -- ---- the masks of a state
 
--- the masks passed that are due lead to states of the file
-abbrev pub RowTo : Ticker → List ℕ → ℕ → Split → Pass → Bool → Bool → Prepared → ℕ → ℕ → Type 0
-RowTo ticker file n split pass kept released state free m =
-    Walked
-    (λ q. pick (eqb (bitAnd q (split .bit)) 0) kept released ≡ true → classOf (pass .classes) (keyOf (stateOf (tickedBy ticker state q))) ≡ pass .class
-    → Holds (stateIn file) n (stateOf (tickedBy ticker state q)))
-    free m
+-- mask q, where it is due, leads to a state of the file if the keys that wait are held
+abbrev Led : Ticker → List ℕ → ℕ → Split → Pass → Bool → Bool → Prepared → List ℕ → ℕ → ℕ → Type 0
+Led ticker file n split pass kept released state pending count q =
+    pick (eqb (bitAnd q (split .bit)) 0) kept released ≡ true → classOf (pass .classes) (keyOf (stateOf (tickedBy ticker state q))) ≡ pass .class
+    → AllHeld file n pending count → Holds (stateIn file) n (stateOf (tickedBy ticker state q))
+
+-- the key of the state after a submask
+pub record Ticked (ticker : Ticker) (state : Prepared) (free : ℕ) (key : Key) : Type 0 where
+  pub mask : ℕ
+  pub small : mask < 256
+  pub sub : submask free mask ≡ true
+  pub is : key ≡ keyOf (stateOf (tickedBy ticker state mask))
+
+-- the masks before m are passed
+pub record RowTo (ticker : Ticker) (file : List ℕ) (n : ℕ) (split : Split) (pass : Pass) (kept released : Bool) (state : Prepared) (free : ℕ) (old : List ℕ) (count : ℕ) (new : List ℕ) (next m : ℕ) : Type 0 where
+  pub grown : Grown old count new next
+  pub from : (k : ℕ) → count ≤ k → k < next → Ticked ticker state free (keyAt new k)
+  pub walked : Walked (Led ticker file n split pass kept released state new next) free m
+
+module _ {ticker : Ticker} {file : List ℕ} {n : ℕ} {split : Split} {pass : Pass} {kept released : Bool} {state : Prepared} {free : ℕ} (small : free < 256) where
+  pub row-start : (p : List ℕ) (count : ℕ) → RowTo ticker file n split pass kept released state free p count p count 0
+  row-start p count = record { grown = grown-not; from = λ k l h. absurd (omega arith); walked = walked-start _ small }
+
+  pub row-next :
+      {p q r : List ℕ} {count next last m : ℕ} {due : Bool} → RowTo ticker file n split pass kept released state free p count q next m → m < 256
+      → due ≡ pick (eqb (bitAnd m (split .bit)) 0) kept released → ((k : ℕ) → Fits w8 (getD file k 0))
+      → AfterWaits pass due (stateOf (tickedBy ticker state m)) q next r last → RowTo ticker file n split pass kept released state free p count r last (follows free m)
+  row-next {p} {q} {r} {count} {next} {last} {m} x b due fits y = record {
+    grown = grown-next (x .grown) (y .grown);
+    from = λ k l h. go k l h (decLt k next);
+    walked = walked-next (Led ticker file n split pass kept released state r last) small passed b (λ d c all. y .held (due ∙ d) c file n fits all);
+  }
+    where
+      go : (k : ℕ) → count ≤ k → k < last → Dec (k < next) → Ticked ticker state free (keyAt r k)
+      go k l h (yes z) = rw (y .grown .first k z) (x .from k l z)
+      go k l h (no z) = record { mask = m; small = b; sub = x .walked .is b; is = y .is k (omega arith) h }
+
+      passed : Walked (Led ticker file n split pass kept released state r last) free m
+      passed = record {
+        most = x .walked .most;
+        is = x .walked .is;
+        each = λ j l e d c all. x .walked .each j l e d c (held-before (y .grown) all);
+      }
 
 abbrev inPass : Pass → ℕ → Bool
 inPass pass at = leb (pass .low) at && ltb at (pass .high)
@@ -74,37 +115,47 @@ module _ (t : Table) (file : List ℕ) (split : Split) (pass : Pass) (i : ℕ) {
   pub row-skipped :
       kept ≡ inPass pass (landing (split .top) (getD file (16 * i + 2 * split .task + 1) 0) false)
       → released ≡ inPass pass (landing (split .top) (getD file (16 * i + 2 * split .task + 1) 0) true)
-      → kept || released ≡ false → Inside t file (RowOf t file split pass i)
-  row-skipped k r none = record {
-    inside = λ j m h b legal d.
-        let due = due-yes k r m (rw (d .is) at (d .due)) in
-        absurd (by-bool (eqb (bitAnd m (split .bit)) 0)
-        (λ e. clash (rw e at due) (nor-left kept released none))
-        (λ e. clash (rw e at due) (nor-right kept released none)));
+      → kept || released ≡ false → (n : ℕ) (p : List ℕ) (count : ℕ) → RowWaits t file n (RowOf t file split pass i) p count p count
+  row-skipped k r none n p count = record {
+    grown = grown-not;
+    from = λ j l h. absurd (omega arith);
+    inside = λ all. record {
+      inside = λ j m h b legal d.
+          let due = due-yes k r m (rw (d .is) at (d .due)) in
+          absurd (by-bool (eqb (bitAnd m (split .bit)) 0)
+          (λ e. clash (rw e at due) (nor-left kept released none))
+          (λ e. clash (rw e at due) (nor-right kept released none)));
+    };
   }
 
 module _ {t : Table} {ticker : Ticker} {file : List ℕ} {split : Split} {pass : Pass} {i : ℕ} {kept released : Bool} {state : Prepared} {free n : ℕ}
     (x : Row t ticker file split pass i kept released state free) (is : n ≡ statesIn file) where
-  -- every mask is passed
-  pub row-end : {m : ℕ} → RowTo ticker file n split pass kept released state free m → 256 ≤ m → Inside t file (RowOf t file split pass i)
-  row-end {m} w l = record {
-    inside = λ j q h b legal d.
-        let here : illegal′ q ≡ false = rw (d .is) at legal in
-        let due = rw (d .is) at (d .due) in
-        let held = w .each q (omega arith) (rw (x .frees) (legal-submask t (stateIn file i) q here)) (due-yes t file split pass i (x .keeps) (x .releases) q due) (rw (x .ticks q) (due .class)) in
-        rw (d .is, ← is) (rw (x .ticks q) at held);
+  -- the key of a state after a submask is that of one after a legal mask
+  row-from : i < n → (key : Key) → Ticked ticker state free key → From t file key
+  row-from h key y = record {
+    state = i;
+    mask = y .mask;
+    below = omega arith;
+    small = y .small;
+    legal = submask-legal t (stateIn file i) (y .mask) (rw (← x .frees) (y .sub));
+    is = y .is ∙ ap keyOf (x .ticks (y .mask));
   }
-    where
-      illegal′ : ℕ → Bool
-      illegal′ q = Rattle.tasks.specs.Tick.illegal t (stateIn file i) q
 
-  -- the state after a mask is not in the file
-  pub row-open :
-      tableFault t ≡ 0 → {m : ℕ} → i < n → RowTo ticker file n split pass kept released state free m → m < 256
-      → (Holds (stateIn file) n (stateOf (tickedBy ticker state m)) → ⊥) → Closed t file → ⊥
-  row-open valid {m} h w b none =
-      not-inside t file valid i m (omega arith) b (submask-legal t (stateIn file i) m (rw (← x .frees) (w .is b)))
-      (λ c. none (rw (x .ticks m, is) c))
+  -- every mask is passed
+  pub row-end :
+      {old new : List ℕ} {count next m : ℕ} → i < n → RowTo ticker file n split pass kept released state free old count new next m → 256 ≤ m
+      → RowWaits t file n (RowOf t file split pass i) old count new next
+  row-end {old} {new} {count} {next} {m} low w l = record {
+    grown = w .grown;
+    from = λ k a b. row-from low (keyAt new k) (w .from k a b);
+    inside = λ all. record {
+      inside = λ j q h b legal d.
+          let here : illegal t (stateIn file i) q ≡ false = rw (d .is) at legal in
+          let due = rw (d .is) at (d .due) in
+          let held = w .walked .each q (omega arith) (rw (x .frees) (legal-submask t (stateIn file i) q here)) (due-yes t file split pass i (x .keeps) (x .releases) q due) (rw (x .ticks q) (due .class)) all in
+          rw (d .is, ← is) (rw (x .ticks q) at held);
+    };
+  }
 
 -- ---- sound states
 

@@ -6,6 +6,8 @@ use Prim.Native.Nat.{ℕ, _+_, _-_, _*_, _/_, _%_, _<_, _≤_, min}
 use lib.Bits.{bitAnd}
 use lib.Dec.{eqb}
 use lib.ListN.{length, getD}
+use mir.Syntax.{w8}
+use mir.Val.{Fits}
 use Rattle.tasks.specs.Lists.{pick}
 use Rattle.tasks.specs.Table.{tableFault}
 use Rattle.tasks.specs.State.{improper}
@@ -81,11 +83,6 @@ pub record Between (file : List ℕ) (split : Split) (low high i m : ℕ) : Type
 abbrev pub Every : ℕ → ℕ → Type 0
 Every i m = Unit {0}
 
--- state s is in the file where it is due and of the pass's class; or it is not in the file
-abbrev pub AfterIs : List ℕ → ℕ → Pass → Bool → State → Bool → Type 0
-AfterIs file n pass due s true = due ≡ true → classOf (pass .classes) (keyOf s) ≡ pass .class → Holds (stateIn file) n s
-AfterIs file n pass due s false = Holds (stateIn file) n s → ⊥
-
 -- ---- what is known so far
 
 -- s is proper, and no mask misses from it
@@ -129,3 +126,52 @@ pub record Ready (t : Table) (ticker : Ticker) (file cells : List ℕ) (n : ℕ)
   pub made : ticker ≡ tickerOf t
   pub sound : Sound t file
   pub some : 256 < length cells
+
+-- ---- keys that wait for their lookup
+
+-- key k of those that wait
+unfoldable pub keyAt : List ℕ → ℕ → Key
+keyAt pending k =
+    record { a = getD pending (4 * k) 0; b = getD pending (4 * k + 1) 0; c = getD pending (4 * k + 2) 0; d = getD pending (4 * k + 3) 0 }
+
+-- each of the first count keys is that of one of the first n states; or one is not
+pub record AllHeld (file : List ℕ) (n : ℕ) (pending : List ℕ) (count : ℕ) : Type 0 where
+  pub each : (k : ℕ) → k < count → Holds (keyIn file) n (keyAt pending k)
+
+abbrev pub AllHeldIs : List ℕ → ℕ → List ℕ → ℕ → Bool → Type 0
+AllHeldIs file n pending count true = AllHeld file n pending count
+AllHeldIs file n pending count false = AllHeld file n pending count → ⊥
+
+-- as long, the first count keys the same, and no fewer
+pub record Grown (old : List ℕ) (count : ℕ) (new : List ℕ) (next : ℕ) : Type 0 where
+  pub same : length new ≡ length old
+  pub up : count ≤ next
+  pub first : (k : ℕ) → k < count → keyAt new k ≡ keyAt old k
+
+-- one key more
+pub record Added (key : Key) (old : List ℕ) (count : ℕ) (new : List ℕ) : Type 0 where
+  pub grown : Grown old count new (count + 1)
+  pub is : keyAt new count ≡ key
+
+-- the key of state s waits where it is due and of the pass's class, and no other is added
+pub record AfterWaits (pass : Pass) (due : Bool) (s : State) (old : List ℕ) (count : ℕ) (new : List ℕ) (next : ℕ) : Type 0 where
+  pub grown : Grown old count new next
+  pub is : (k : ℕ) → count ≤ k → k < next → keyAt new k ≡ keyOf s
+  pub held :
+      due ≡ true → classOf (pass .classes) (keyOf s) ≡ pass .class → (file : List ℕ) (n : ℕ) → ((k : ℕ) → Fits w8 (getD file k 0))
+      → AllHeld file n new next → Holds (stateIn file) n s
+
+-- the key of the state after a legal mask of a state of the file
+pub record From (t : Table) (file : List ℕ) (key : Key) : Type 0 where
+  pub state : ℕ
+  pub mask : ℕ
+  pub below : state < statesIn file
+  pub small : mask < 256
+  pub legal : illegal t (stateIn file state) mask ≡ false
+  pub is : key ≡ keyOf (after t (stateIn file state) mask)
+
+-- the keys of the states after the pairs with the property D wait, and none is added but those of states after legal masks
+pub record RowWaits (t : Table) (file : List ℕ) (n : ℕ) (D : ℕ → ℕ → Type 0) (old : List ℕ) (count : ℕ) (new : List ℕ) (next : ℕ) : Type 0 where
+  pub grown : Grown old count new next
+  pub from : (k : ℕ) → count ≤ k → k < next → From t file (keyAt new k)
+  pub inside : AllHeld file n new next → Inside t file D

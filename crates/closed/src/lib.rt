@@ -4,6 +4,7 @@ mod cells;
 mod check;
 mod file;
 mod passes;
+mod pending;
 mod sound;
 
 pub use check::ClosedAnswer;

@@ -9,14 +9,15 @@ ghost use lib.Bits.{bitAnd};
 ghost use lib.Dec.{eqb, ltb, leb};
 ghost use lib.ListN.{length, getD};
 ghost use Rattle.tasks.specs.Lists.{pick};
-ghost use Rattle.tasks.specs.Ticker.{tickedBy};
+ghost use Rattle.tasks.specs.Ticker.{tickedBy, tickerOf};
 ghost use Rattle.tasks.specs.Words.{stateOf};
-ghost use Rattle.closed.specs.Keeping.{classOf, landing, Due, RowOf, Between, Every, AfterIs, InsideIs, Ready};
+ghost use Rattle.closed.specs.Keeping.{classOf, landing, Due, RowOf, Between, Every, InsideIs, Given, Ready, AfterWaits, RowWaits};
 use crate::cells::clear;
-use crate::cells::holds;
 use crate::cells::put;
 use crate::file::gap_at;
 use crate::file::key_in;
+use crate::pending::all_held;
+use crate::pending::put_key;
 use states::Key;
 use states::follow;
 use states::key_of;
@@ -123,66 +124,67 @@ fn is_due(bit: u8, kept: bool, released: bool, mask: u8) -> bool
     if mask & bit == 0 { kept } else { released }
 }
 
-// Whether the state after a mask is in the file, where it is due and of the pass's class.
-fn after_inside(
+// Puts the key of the state after a mask behind the keys that wait, where it is due and of the pass's class. How many wait then.
+fn put_after(
     ticker: Ticker,
-    file: &[u8],
-    cells: &[u32],
-    n: usize,
+    pending: &mut [u32],
+    count: usize,
     pass: Pass,
     state: Prepared,
     due: bool,
     mask: u8,
-) -> bool
-    requires { ⌜ (16 * n ≤ length (now file)) × (256 < length (now cells)) × (0 < pass .classes) ⌝ }
-    ensures { λ r. ⌜ AfterIs (now (file .entry)) n pass due (stateOf (tickedBy ticker state mask)) r ⌝ }
+) -> usize
+    requires { ⌜ (4 * count + 4 ≤ length (now pending)) × (0 < pass .classes) ⌝ }
+    ensures { λ r. ⌜ (r ≤ count + 1) × AfterWaits pass due (stateOf (tickedBy ticker state mask)) (now (pending .entry)) count (now (pending .exit)) r ⌝ }
 {
     if !due {
-        return true;
+        return count;
     }
     let key = key_of(ticker.after(state, mask));
     if class_of(key, pass.classes) == pass.class {
-        return holds(file, cells, n, key);
+        put_key(pending, count, key);
+        return count + 1;
     }
-    true
+    count
 }
 
-// Whether the states after the masks of state i that are due in the pass are in the file.
-fn row_inside(
+// Puts the keys of the states after the masks of state i that are due in the pass behind those that wait. How many wait then.
+fn row_pending(
     t: Table,
     ticker: Ticker,
     file: &[u8],
-    cells: &[u32],
+    pending: &mut [u32],
+    count: usize,
     n: usize,
     split: Split,
     pass: Pass,
     i: usize,
-) -> bool
-    requires { ⌜ Ready t ticker (now file) (now cells) n × (0 < pass .classes) × (split .task < 8) × (i < n) ⌝ }
-    ensures { λ r. ⌜ InsideIs t (now (file .entry)) (RowOf t (now (file .entry)) split pass i) r ⌝ }
+) -> usize
+    requires { ⌜ Given t (now file) n × (ticker ≡ tickerOf t) × (0 < pass .classes) × (split .task < 8) × (i < n) × (4 * count + 1024 ≤ length (now pending)) ⌝ }
+    ensures { λ r. ⌜ (r ≤ count + 256) × RowWaits t (now (file .entry)) n (RowOf t (now (file .entry)) split pass i) (now (pending .entry)) count (now (pending .exit)) r ⌝ }
 {
     let v = words_of(key_in(file, i));
     let gap = gap_at(file, i, split.task);
     let kept = between(pass.low, pass.high, landing(split.top, gap, false));
     let released = between(pass.low, pass.high, landing(split.top, gap, true));
     if !(kept | released) {
-        return true;
+        return count;
     }
     let free = ticker.free(v);
     let state = ticker.prepare(v);
+    let mut c = count;
     let mut m: u16 = 0;
     while m < 256 {
         let mask = m as u8;
         let due = is_due(split.bit, kept, released, mask);
-        if !after_inside(ticker, file, cells, n, pass, state, due, mask) {
-            return false;
-        }
+        c = put_after(ticker, pending, c, pass, state, due, mask);
         m = follow(free, mask);
     }
-    true
+    c
 }
 
-// .. of every state.
+// Whether the states after the masks of every state that are due in the pass are in the file. Their keys wait until there are many: looked
+// up one right after the other, they wait for memory together.
 fn rows_inside(
     t: Table,
     ticker: Ticker,
@@ -195,12 +197,18 @@ fn rows_inside(
     requires { ⌜ Ready t ticker (now file) (now cells) n × (0 < pass .classes) × (split .task < 8) ⌝ }
     ensures { λ r. ⌜ InsideIs t (now (file .entry)) (Due t (now (file .entry)) split pass) r ⌝ }
 {
+    let mut pending = [0u32; 1280];
+    let mut count: usize = 0;
     let mut i: usize = 0;
     while i < n {
-        if !row_inside(t, ticker, file, cells, n, split, pass, i) {
-            return false;
-        }
+        count = row_pending(t, ticker, file, &mut pending, count, n, split, pass, i);
         i += 1;
+        if (64 <= count) | (i == n) {
+            if !all_held(file, cells, n, &pending, count) {
+                return false;
+            }
+            count = 0;
+        }
     }
     true
 }

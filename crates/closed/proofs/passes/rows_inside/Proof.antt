@@ -1,51 +1,97 @@
--- The invariant: the pairs due of the states passed lead to states of the file. Assumes nothing.
-use Prim.Native.Nat.{_-_, _≤_}
-use mathlib.Core.Path.{_≡_}
+-- The invariant: the pairs due of the states passed lead to states of the file where the keys that wait are held. Assumes nothing.
+use Prim.Native.Nat.{_+_, _-_, _<_, _≤_}
+use mathlib.Core.Path.{_≡_, refl, _∙_}
 use mathlib.Core.Bool.{true, false}
-use borrow.Author.Tests.{not-true, not-false}
-use Rattle.closed.specs.Keeping.{Inside}
-use Rattle.closed.proofs.InsideLaws.{RowsTo, rows-start, rows-next, rows-end}
+use borrow.Author.Tests.{not-true, not-false, leb-false, eqb-false}
+use lib.Dec.{leb, eqb}
+use lib.ListN.{length}
+use Rattle.tasks.proofs.Bools.{nor-left, nor-right}
+use Rattle.closed.proofs.InsideLaws.{RowsTo}
+use Rattle.closed.proofs.PendingLaws.{Waiting, waiting-start, waiting-next, waiting-held, waiting-end, waiting-open}
 use native.Mathlib.Omega.{arith}
 use borrow.Author.Needs.{needs}
 use Rattle.closed.proofs.passes.rows_inside.Statement.{statement}
 use Rattle.closed.proofs.passes.rows_inside.Tie as tie
 
 abbrev Inv-loop : tie.InvT-loop
-Inv-loop t ticker file cells n split pass i₀ i = (i ≤ n) × Inside t file (RowsTo t file split pass i)
+Inv-loop t ticker file cells n split pass pending₀ count₀ i₀ pending count i = (i ≤ n) × (length pending ≡ 1280) × (count < 64) × (n ≤ i → count ≡ 0) × Waiting t file n (RowsTo t file split pass i) pending count
 
 abbrev μ-loop : tie.MeasureT-loop
-μ-loop t ticker file cells n split pass i₀ i = n - i
+μ-loop t ticker file cells n split pass pending₀ count₀ i₀ pending count i = n - i
 
 loop-holds : tie.Need-loop-holds Inv-loop μ-loop
 loop-holds c =
-    (omega arith, rows-start _ _ _ _)
+    (omega arith, search needs, omega arith, λ l. refl, waiting-start _ _ _ _ _ _)
 
-row-inside-requires : tie.Need-row-inside-requires Inv-loop μ-loop
-row-inside-requires c κs =
-    let p = c .before .before .before .before .pre in
-    (p .0, p .1, p .2, c .loop-test .taken)
+slice-aggregate-row-pending : tie.Need-slice-aggregate-row-pending Inv-loop μ-loop
+slice-aggregate-row-pending c = search needs
 
-returns : tie.Need-returns Inv-loop μ-loop
-returns c =
-    let none : c .before .row-inside .result ≡ false = not-true (c .before .row-inside .result) (c .if1 .taken) in
-    rw none at (c .before .row-inside .ensures)
+row-pending-requires : tie.Need-row-pending-requires Inv-loop μ-loop
+row-pending-requires c κs =
+    let p = c .before .before .before .before .before .pre in
+    let l = c .before .before .loop in
+    (p .0 .given, p .0 .made, p .1, p .2, c .before .loop-test .taken, omega (arith, l .inv .1, l .inv .2))
 
 add-i : tie.Need-add-i Inv-loop μ-loop
 add-i c = search needs
+
+slice-aggregate-all-held : tie.Need-slice-aggregate-all-held Inv-loop μ-loop
+slice-aggregate-all-held c = search needs
+
+all-held-requires : tie.Need-all-held-requires Inv-loop μ-loop
+all-held-requires c κs =
+    let p = c .before .before .before .before .before .before .before .before .before .pre in
+    let l = c .before .before .before .before .before .before .loop in
+    let r = c .before .before .before .row-pending .ensures in
+    (p .0 .given .whole, p .0 .some, omega (arith, l .inv .1, l .inv .2, r .0, r .1 .grown .same))
+
+returns : tie.Need-returns Inv-loop μ-loop
+returns c =
+    let s = c .before .before .before .before .before .before .before .before .before .before .before in
+    let l = c .before .before .before .before .before .before .before .before .loop in
+    let none : c .before .all-held .result ≡ false = not-true (c .before .all-held .result) (c .if2 .taken) in
+    waiting-open (s .args .t) (s .args .file .now) (s .args .n) (s .pre .0 .given .valid) (s .pre .0 .given .is)
+    (waiting-next (s .args .t) (s .args .file .now) (s .args .n) (s .args .split) (s .args .pass) (l .inv .4) (c .before .before .before .before .before .row-pending .ensures .1)) (rw none at (c .before .all-held .ensures))
 
 loop-less : tie.Need-loop-less Inv-loop μ-loop
 loop-less c = search needs
 
 loop-again : tie.Need-loop-again Inv-loop μ-loop
 loop-again c =
-    let a = c .before .before .before .before .before .before .args in
-    let yes : c .before .row-inside .result ≡ true = not-false (c .before .row-inside .result) (c .if1 .left) in
-    (omega arith, rows-next (a .t) (a .file .now) (a .split) (a .pass) (c .before .before .before .loop .inv .1) (rw yes at (c .before .row-inside .ensures)))
+    let s = c .before .before .before .before .before .before .before .before .before .before .before in
+    let l = c .before .before .before .before .before .before .before .before .loop in
+    let r = c .before .before .before .before .before .row-pending .ensures in
+    let yes : c .before .all-held .result ≡ true = not-false (c .before .all-held .result) (c .if2 .left) in (
+      omega arith,
+      r .1 .grown .same ∙ l .inv .1,
+      omega arith,
+      λ e. refl,
+      waiting-held (s .args .t) (s .args .file .now) (s .args .n)
+          (waiting-next (s .args .t) (s .args .file .now) (s .args .n) (s .args .split) (s .args .pass) (l .inv .4) (r .1)) (rw yes at (c .before .all-held .ensures)),
+    )
+
+loop-less-2 : tie.Need-loop-less-2 Inv-loop μ-loop
+loop-less-2 c = search needs
+
+loop-again-2 : tie.Need-loop-again-2 Inv-loop μ-loop
+loop-again-2 c =
+    let s = c .before .before .before .before .before .before .before .before in
+    let l = c .before .before .before .before .before .loop in
+    let r = c .before .before .row-pending in
+    let few = leb-false 64 (r .result) (nor-left (leb 64 (r .result)) (eqb (l .i + 1) (s .args .n)) (c .if1 .left)) in
+    let more = eqb-false (l .i + 1) (s .args .n) (nor-right (leb 64 (r .result)) (eqb (l .i + 1) (s .args .n)) (c .if1 .left)) in (
+      omega (arith, c .before .before .before .before .loop-test .taken),
+      r .ensures .1 .grown .same ∙ l .inv .1,
+      omega (arith, few),
+      λ e. absurd (more (omega (arith, c .before .before .before .before .loop-test .taken))),
+      waiting-next (s .args .t) (s .args .file .now) (s .args .n) (s .args .split) (s .args .pass) (l .inv .4) (r .ensures .1),
+    )
 
 returns-2 : tie.Need-returns-2 Inv-loop μ-loop
 returns-2 c =
     let s = c .before .before .before .before in
-    rows-end (s .args .t) (s .args .file .now) (s .args .split) (s .args .pass) (c .before .loop .inv .1) (s .pre .0 .given .is) (c .loop-test .left)
+    let l = c .before .loop in
+    waiting-end (s .args .t) (s .args .file .now) (s .args .n) (s .args .split) (s .args .pass) (l .inv .4) (l .inv .3 (c .loop-test .left)) (s .pre .0 .given .is) (c .loop-test .left)
 
 pub rows-inside-spec : {M : Type 1} → statement M
 rows-inside-spec =
@@ -54,9 +100,14 @@ rows-inside-spec =
     Inv-loop
     μ-loop
     loop-holds
-    row-inside-requires
-    returns
+    slice-aggregate-row-pending
+    row-pending-requires
     add-i
+    slice-aggregate-all-held
+    all-held-requires
+    returns
     loop-less
     loop-again
+    loop-less-2
+    loop-again-2
     returns-2)

@@ -1,31 +1,32 @@
--- The invariant: the masks passed that are due lead to states of the file. Assumes nothing.
-use Prim.Native.Nat.{ℕ, _+_, _-_, _*_, _<_}
-use mathlib.Core.Path.{_≡_, sym, ap, _∙_}
-use mathlib.Core.Bool.{Bool, true, false, _&&_, _||_}
-use borrow.Author.Tests.{not-true, not-false}
+-- The invariant: the keys of the states after the masks passed that are due wait. Assumes nothing.
+use Prim.Native.Nat.{ℕ, _+_, _-_, _*_, _<_, _≤_}
+use mathlib.Core.Path.{_≡_, refl, ap, _∙_}
+use mathlib.Core.Bool.{Bool, true, false, _&&_}
+use borrow.Author.Tests.{not-true}
 use lib.Dec.{leb, ltb}
-use lib.ListN.{getD}
+use lib.ListN.{length, getD}
 use Rattle.tasks.specs.Tick.{after}
 use Rattle.tasks.specs.Masks.{freeMask}
 use Rattle.tasks.specs.Words.{stateOf}
 use Rattle.tasks.proofs.InWords.{TableBytes, WordList}
 use Rattle.tasks.proofs.Free.{ticks, frees}
 use Rattle.states.specs.Keys.{wordsOf}
-use Rattle.states.proofs.MaskLaws.{walked-start, walked-next, walked-falls}
+use Rattle.states.proofs.MaskLaws.{walked-falls}
 use Rattle.closed.specs.Closed.{stateIn}
 use Rattle.closed.specs.Keeping.{landing}
 use Rattle.closed.proofs.FileLaws.{read-state}
-use Rattle.closed.proofs.RowLaws.{RowTo, Row, row-skipped, row-end, row-open}
+use Rattle.closed.proofs.RowLaws.{RowTo, Row, row-start, row-next, row-skipped, row-end}
 use native.Mathlib.Omega.{arith}
 use borrow.Author.Needs.{needs}
-use Rattle.closed.proofs.passes.row_inside.Statement.{statement}
-use Rattle.closed.proofs.passes.row_inside.Tie as tie
+use Rattle.closed.proofs.passes.row_pending.Statement.{statement}
+use Rattle.closed.proofs.passes.row_pending.Tie as tie
 
 abbrev Inv-loop : tie.InvT-loop
-Inv-loop ticker file cells n split pass i gap kept released free state m₀ m = RowTo ticker file n split pass kept released state free m
+Inv-loop ticker file pending₀ count n split pass i gap kept released free state c₀ m₀ pending c m =
+    (c ≤ count + m) × (length pending ≡ length pending₀) × RowTo ticker file n split pass kept released state free pending₀ count pending c m
 
 abbrev μ-loop : tie.MeasureT-loop
-μ-loop ticker file cells n split pass i gap kept released free state m₀ m = 256 - m
+μ-loop ticker file pending₀ count n split pass i gap kept released free state c₀ m₀ pending c m = 256 - m
 
 -- where the row began
 abbrev start : tie.At-loop Inv-loop μ-loop → tie.Start Inv-loop μ-loop
@@ -59,14 +60,14 @@ row l =
     record {
       keeps = due-is g false (l .before .before .before .before .before .before .between .ensures) (l .before .before .before .before .before .before .before .landing .ensures);
       releases = due-is g true (l .before .before .before .before .between2 .ensures) (l .before .before .before .before .before .landing2 .ensures);
-      ticks = λ q. ticks (s .args .t) _ (s .pre .0 .made) (l .before .prepare .ensures) (table-bytes s) (word-list w) q ∙ ap (λ u. after (s .args .t) u q) here;
-      frees = frees (s .args .t) _ (s .pre .0 .made) (l .before .before .free .ensures) ∙ ap (freeMask (s .args .t)) here;
+      ticks = λ q. ticks (s .args .t) _ (s .pre .1) (l .before .prepare .ensures) (table-bytes s) (word-list w) q ∙ ap (λ u. after (s .args .t) u q) here;
+      frees = frees (s .args .t) _ (s .pre .1) (l .before .before .free .ensures) ∙ ap (freeMask (s .args .t)) here;
     }
 
 key-in-requires : tie.Need-key-in-requires Inv-loop μ-loop
 key-in-requires c κs =
     let g = c .before .before .pre in
-    omega (arith, g .0 .given .whole, g .3)
+    omega (arith, g .0 .whole, g .4)
 
 words-of-requires : tie.Need-words-of-requires Inv-loop μ-loop
 words-of-requires c κs = search needs
@@ -74,7 +75,7 @@ words-of-requires c κs = search needs
 gap-at-requires : tie.Need-gap-at-requires Inv-loop μ-loop
 gap-at-requires c κs =
     let g = c .before .before .before .before .pre in
-    (omega (arith, g .0 .given .whole, g .3), g .2)
+    (omega (arith, g .0 .whole, g .4), g .3)
 
 landing-requires : tie.Need-landing-requires Inv-loop μ-loop
 landing-requires c κs = search needs
@@ -91,9 +92,11 @@ between-requires-2 c κs = search needs
 returns : tie.Need-returns Inv-loop μ-loop
 returns c =
     let s = c .before .before .before .before .before .before .before .before .before .before in
-    let g = c .before .before .before .before .before in
-    row-skipped (s .args .t) (s .args .file .now) (s .args .split) (s .args .pass) (s .args .i)
-    (due-is g false (c .before .before .before .between .ensures) (c .before .before .before .before .landing .ensures)) (due-is g true (c .before .between2 .ensures) (c .before .before .landing2 .ensures)) (not-true _ (c .if1 .taken))
+    let g = c .before .before .before .before .before in (
+      omega arith,
+      row-skipped (s .args .t) (s .args .file .now) (s .args .split) (s .args .pass) (s .args .i)
+          (due-is g false (c .before .before .before .between .ensures) (c .before .before .before .before .landing .ensures)) (due-is g true (c .before .between2 .ensures) (c .before .before .landing2 .ensures)) (not-true _ (c .if1 .taken)) (s .args .n) (s .args .pending .now) (s .args .count),
+    )
 
 free-requires : tie.Need-free-requires Inv-loop μ-loop
 free-requires c κs = search needs
@@ -103,7 +106,7 @@ prepare-requires c κs = search needs
 
 loop-holds : tie.Need-loop-holds Inv-loop μ-loop
 loop-holds c =
-    walked-start _ (omega (arith, c .before .free .ok))
+    (omega arith, refl, row-start (omega (arith, c .before .free .ok)) _ _)
 
 cast-mask : tie.Need-cast-mask Inv-loop μ-loop
 cast-mask c = search needs
@@ -111,41 +114,43 @@ cast-mask c = search needs
 is-due-requires : tie.Need-is-due-requires Inv-loop μ-loop
 is-due-requires c κs = search needs
 
-after-inside-requires : tie.Need-after-inside-requires Inv-loop μ-loop
-after-inside-requires c κs =
-    let p = c .before .before .before .before .before .before .before .before .before .before .before .before .before .before .before .pre in
-    (p .0 .given .whole, p .0 .some, p .1)
-
-returns-2 : tie.Need-returns-2 Inv-loop μ-loop
-returns-2 c =
-    let l = c .before .before .before .before in
-    let s = start l in
-    row-open (row l) (s .pre .0 .given .is) (s .pre .0 .given .valid) (s .pre .3) (l .loop .inv) (c .before .before .before .loop-test .taken)
-    (let none : c .before .after-inside .result ≡ false = not-true (c .before .after-inside .result) (c .if2 .taken) in rw none at (c .before .after-inside .ensures))
+put-after-requires : tie.Need-put-after-requires Inv-loop μ-loop
+put-after-requires c κs =
+    let l = c .before .before .before in
+    let p = start l .pre in
+    (omega (arith, p .5, l .loop .inv .0, l .loop .inv .1, c .before .before .loop-test .taken), p .2)
 
 follow-requires : tie.Need-follow-requires Inv-loop μ-loop
 follow-requires c κs = search needs
 
 loop-less : tie.Need-loop-less Inv-loop μ-loop
 loop-less c =
-    let l = c .before .before .before .before .before in
-    rw (c .follow .ensures) (omega (arith, walked-falls _ (omega (arith, l .before .before .free .ok)) (l .loop .inv) (c .before .before .before .before .loop-test .taken), l .loop .inv .most))
+    let l = c .before .before .before .before .before .before .before in
+    rw (c .follow .ensures) (omega (arith, walked-falls _ (omega (arith, l .before .before .free .ok)) (l .loop .inv .2 .walked) (c .before .before .before .before .before .before .loop-test .taken), l .loop .inv .2 .walked .most))
 
 loop-again : tie.Need-loop-again Inv-loop μ-loop
 loop-again c =
-    let l = c .before .before .before .before .before in
-    let yes : c .before .before .after-inside .result ≡ true = not-false (c .before .before .after-inside .result) (c .before .if2 .left) in
-    let found = rw yes at (c .before .before .after-inside .ensures) in
-    rw (c .follow .ensures)
-    (walked-next _ (omega (arith, l .before .before .free .ok)) (l .loop .inv) (c .before .before .before .before .loop-test .taken) (λ due class. found (c .before .before .before .is-due .ensures ∙ due) class))
+    let l = c .before .before .before .before .before .before .before in
+    let small = c .before .before .before .before .before .before .loop-test .taken in
+    let free : l .before .before .free .result < 256 = omega (arith, l .before .before .free .ok) in
+    let more = c .before .before .before .put-after .ensures in
+    rw (c .follow .ensures) (
+      omega (arith, more .0, l .loop .inv .0, walked-falls _ free (l .loop .inv .2 .walked) small),
+      more .1 .grown .same ∙ l .loop .inv .1,
+      row-next free (l .loop .inv .2) small (c .before .before .before .before .before .is-due .ensures) (l .before .before .before .before .before .before .before .before .before .before .before .before .shared-slice-known .given) (more .1),
+    )
 
-returns-3 : tie.Need-returns-3 Inv-loop μ-loop
-returns-3 c =
+same-length : tie.Need-same-length Inv-loop μ-loop
+same-length c =
+    c .before .loop .inv .1
+
+returns-2 : tie.Need-returns-2 Inv-loop μ-loop
+returns-2 c =
     let l = c .before in
-    row-end (row l) (start l .pre .0 .given .is) (l .loop .inv) (c .loop-test .left)
+    (omega (arith, l .loop .inv .0, l .loop .inv .2 .walked .most), row-end (row l) (start l .pre .0 .is) (start l .pre .4) (l .loop .inv .2) (c .loop-test .left))
 
-pub row-inside-spec : {M : Type 1} → statement M
-row-inside-spec =
+pub row-pending-spec : {M : Type 1} → statement M
+row-pending-spec =
     tie.close
     (tie.spec
     Inv-loop
@@ -163,9 +168,9 @@ row-inside-spec =
     loop-holds
     cast-mask
     is-due-requires
-    after-inside-requires
-    returns-2
+    put-after-requires
     follow-requires
     loop-less
     loop-again
-    returns-3)
+    same-length
+    returns-2)
