@@ -199,11 +199,11 @@ fn rows_inside(
 {
     let mut pending = [0u32; 1280];
     let mut count: usize = 0;
-    let mut i: usize = 0;
-    while i < n {
-        count = row_pending(t, ticker, file, &mut pending, count, n, split, pass, i);
-        i += 1;
-        if (64 <= count) | (i == n) {
+    let mut row: usize = 0;
+    while row < n {
+        count = row_pending(t, ticker, file, &mut pending, count, n, split, pass, row);
+        row += 1;
+        if (64 <= count) | (row == n) {
             if !all_held(file, cells, n, &pending, count) {
                 return false;
             }

@@ -32,8 +32,8 @@ row-pending-requires c κs =
     let l = c .before .before .loop in
     (p .0 .given, p .0 .made, p .1, p .2, c .before .loop-test .taken, omega (arith, l .inv .1, l .inv .2))
 
-add-i : tie.Need-add-i Inv-loop μ-loop
-add-i c = search needs
+add-row : tie.Need-add-row Inv-loop μ-loop
+add-row c = search needs
 
 slice-aggregate-all-held : tie.Need-slice-aggregate-all-held Inv-loop μ-loop
 slice-aggregate-all-held c = search needs
@@ -78,8 +78,8 @@ loop-again-2 c =
     let s = c .before .before .before .before .before .before .before .before in
     let l = c .before .before .before .before .before .loop in
     let r = c .before .before .row-pending in
-    let few = leb-false 64 (r .result) (nor-left (leb 64 (r .result)) (eqb (l .i + 1) (s .args .n)) (c .if1 .left)) in
-    let more = eqb-false (l .i + 1) (s .args .n) (nor-right (leb 64 (r .result)) (eqb (l .i + 1) (s .args .n)) (c .if1 .left)) in (
+    let few = leb-false 64 (r .result) (nor-left (leb 64 (r .result)) (eqb (l .row + 1) (s .args .n)) (c .if1 .left)) in
+    let more = eqb-false (l .row + 1) (s .args .n) (nor-right (leb 64 (r .result)) (eqb (l .row + 1) (s .args .n)) (c .if1 .left)) in (
       omega (arith, c .before .before .before .before .loop-test .taken),
       r .ensures .1 .grown .same ∙ l .inv .1,
       omega (arith, few),
@@ -102,7 +102,7 @@ rows-inside-spec =
     loop-holds
     slice-aggregate-row-pending
     row-pending-requires
-    add-i
+    add-row
     slice-aggregate-all-held
     all-held-requires
     returns
