@@ -29,20 +29,18 @@ extern "C" {
 #define RONCHHEK_TABLE_BYTES 27
 #define RONCHHEK_LONGEST_SHEET 52
 
-/* Stack that ronchhek_verdict needs, in bytes, by the slots of the work space, that ronchhek_closed needs, by the states of the
- * file, and that ronchhek_replay needs. The heads of the index over the slots stand on the stack: 16 KB, 256 KB or 1 MB by the
- * number of slots, each in a frame of its own. So does the index over a file: 66 KB or 1.05 MB by the number of states. The other
- * calls need no more than ronchhek_replay. tests/outside/stack.c measures these figures.
+/* Stack that ronchhek_verdict needs, in bytes, by the slots of the work space, that ronchhek_closed needs, and that
+ * ronchhek_replay needs. The heads of the index over the slots stand on the stack: 16 KB, 256 KB or 1 MB by the number of slots,
+ * each in a frame of its own. So does the index over a file, in one frame of 1 MB. The other calls need no more than
+ * ronchhek_replay. tests/outside/stack.c measures these figures.
  */
 #define RONCHHEK_STACK_SMALL 20480     /* up to 16,384 slots */
 #define RONCHHEK_STACK_MEDIUM 266240   /* up to 262,144 slots */
 #define RONCHHEK_STACK_LARGE 1126400   /* more */
 #define RONCHHEK_STACK_REPLAY 20480
-#define RONCHHEK_STACK_CLOSED_SMALL 81920     /* up to 12,288 states */
-#define RONCHHEK_STACK_CLOSED_LARGE 1126400   /* more */
+#define RONCHHEK_STACK_CLOSED 1126400
 #define RONCHHEK_SLOTS_SMALL 16384
 #define RONCHHEK_SLOTS_MEDIUM 262144
-#define RONCHHEK_STATES_SMALL 12288
 
 /* A sheet is a series of numbers:
  *

@@ -66,7 +66,7 @@ static size_t used(struct job *job)
 /* A file of as many start states, once accepted and once not: whether the larger of both measures is within the header's figure. */
 static int file(struct job job, size_t thread)
 {
-    size_t stated = job.slots <= RONCHHEK_STATES_SMALL ? RONCHHEK_STACK_CLOSED_SMALL : RONCHHEK_STACK_CLOSED_LARGE, most = 0;
+    size_t stated = RONCHHEK_STACK_CLOSED, most = 0;
     memset(job.work, 0, job.slots * RONCHHEK_STATE_BYTES);
     for (job.kind = ACCEPTED; job.kind <= NO; job.kind++) {
         size_t measured = used(&job) - thread;
@@ -84,7 +84,7 @@ static int file(struct job job, size_t thread)
 int main(void)
 {
     static const size_t slots[] = {1, 2730, 16384, 16385, 65536, 262144, 262145, 1000000};
-    static const size_t states[] = {1, 2730, 12288, 12289, 196608, 1000000, 1500000};
+    static const size_t states[] = {1, 12288, 12289, 49152, 49153, 1000000, 1500000};
     uint8_t *work = malloc((size_t)RONCHHEK_MOST_SLOTS * RONCHHEK_SLOT_BYTES);
     uint8_t *trace = malloc(RONCHHEK_MOST_SLOTS);
     if (!work || !trace) {

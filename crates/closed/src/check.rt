@@ -55,7 +55,7 @@ fn closed_with(t: Table, file: &[u8], n: usize, cells: &mut [u32]) -> bool
     all_inside(t, ticker, file, cells, n, split_of(t))
 }
 
-// Up to 12,288 states: 65 KB of cells on the stack.
+// Up to 12,288 states: 65 KB of cells.
 fn closed_small(t: Table, file: &[u8], n: usize) -> bool
     requires { ⌜ Given t (now file) n ⌝ }
     ensures { λ r. ⌜ ClosedIs t (now (file .entry)) r ⌝ }
@@ -64,44 +64,37 @@ fn closed_small(t: Table, file: &[u8], n: usize) -> bool
     closed_with(t, file, n, &mut cells)
 }
 
-// How many of the cells serve n states: the fewer, the nearer they are to the processor.
-fn cells_for(n: usize) -> usize
-    ensures { λ r. ⌜ (256 < r) × (r ≤ 262400) ⌝ }
-{
-    if n <= 49152 { 65792 } else { 262400 }
-}
-
-// Whether the file is closed, with as many of the cells as serve it.
-fn closed_near(t: Table, file: &[u8], n: usize, cells: &mut [u32]) -> bool
-    requires { ⌜ Given t (now file) n × (length (now cells) ≡ 262400) ⌝ }
+// Up to 49,152 states: 257 KB.
+fn closed_medium(t: Table, file: &[u8], n: usize) -> bool
+    requires { ⌜ Given t (now file) n ⌝ }
     ensures { λ r. ⌜ ClosedIs t (now (file .entry)) r ⌝ }
 {
-    let serving = cells_for(n);
-    closed_with(t, file, n, &mut cells[..serving])
+    let mut cells = [0u32; 65792];
+    closed_with(t, file, n, &mut cells)
 }
 
-// More: 1 MB of cells.
+// More: 1 MB.
 fn closed_large(t: Table, file: &[u8], n: usize) -> bool
     requires { ⌜ Given t (now file) n ⌝ }
     ensures { λ r. ⌜ ClosedIs t (now (file .entry)) r ⌝ }
 {
     let mut cells = [0u32; 262400];
-    closed_near(t, file, n, &mut cells)
+    closed_with(t, file, n, &mut cells)
 }
 
-// Whether the file is closed, with the cells for n states. It calls itself: the compiler then keeps each size's cells in a frame of their
-// own, so that a small file does not pay a large one's stack.
-fn closed_sized(t: Table, file: &[u8], n: usize, step: usize) -> bool
+// Whether the file is closed, with the cells for n states: the fewer, the sooner they are cleared and the nearer they are to the
+// processor. The compiler makes one frame of the three.
+fn closed_sized(t: Table, file: &[u8], n: usize) -> bool
     requires { ⌜ Given t (now file) n ⌝ }
     ensures { λ r. ⌜ ClosedIs t (now (file .entry)) r ⌝ }
 {
-    if 0 < step {
-        return closed_large(t, file, n);
-    }
     if n <= 12288 {
         return closed_small(t, file, n);
     }
-    closed_sized(t, file, n, 1)
+    if n <= 49152 {
+        return closed_medium(t, file, n);
+    }
+    closed_large(t, file, n)
 }
 
 // The answer for a valid table.
@@ -116,7 +109,7 @@ fn closed_valid(t: Table, file: &[u8]) -> ClosedAnswer
     if 0 < length % 16 {
         return ClosedAnswer::Refused(14);
     }
-    if closed_sized(t, file, length / 16, 0) {
+    if closed_sized(t, file, length / 16) {
         ClosedAnswer::Accepted
     } else {
         ClosedAnswer::No
