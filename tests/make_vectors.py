@@ -18,6 +18,12 @@ kind #, whose line is the vector's label. The kinds:
     v  a sheet, two spaces      search safe N, search unsafe L N, search room K or search refused R; then
                                 the fields below
     q  a sheet, two spaces      call, and the number that the call for C programs returns
+    c  a sheet, a file          closed accepted, closed no or closed refused R; then the number that the call
+                                for C programs returns
+    f  a table, a file          file accepted, file no or file refused R
+    o  a count, a work space    copy LENGTH, or copy refused R, and the whole output in hexadecimal; then the
+                                number that the call for C programs returns, and the output that it leaves
+    e  a sheet, spaces, a count evidence LENGTH, or evidence refused R; then the fields at the end
 
 A table is 27 bytes: policy, m, n, eight C, eight D, eight P. A state is 16 bytes: c and p of each of
 eight tasks, printed in that order. An output is filled with (i * 37 + 11) mod 256 at place i before
@@ -37,10 +43,25 @@ replay.
                do not lead to their state (not if refused)
     digest X   the sum modulo 2^32 of a hash of the 16 bytes of each stored state (safe, unsafe)
     replay X   what replaying the first L bytes of the trace space answers (unsafe)
+
+A file is states of 16 bytes each, or other bytes, up to the body's end; before it stands a table, or a
+sheet after its length in a byte. A count and a work space are the count in 4 bytes, the length of the output
+in a byte, and the work space up to the body's end; the output is filled as the writer's, before each call.
+
+A sheet, spaces and a count are the sheet's length in a byte, the sheet, the lengths of the work space and
+of the output and the count in 4 bytes each, and a byte f. The work space is filled as that of a search, which
+then has it and a trace that is long enough; whatever it answers, states are copied out of the work space. The
+output is filled as the writer's.
+
+    later X    bytes of the output changed after those written (after none if refused)
+    wrong X    states of the copy that are not those of the slots, each in its place (not if refused)
+    digest X   as above, of the slots whose states are copied (not if refused)
+    accepted, no, refused R: how the copy is judged for the sheet (not if its own answer is a refusal)
 """
 import sys
+from itertools import product
 from pathlib import Path
-from typing import Iterator, NamedTuple
+from typing import Callable, Iterable, Iterator, NamedTuple
 
 sys.dont_write_bytecode = True
 
@@ -48,11 +69,12 @@ import reference as ref
 from reference import START, State, Table, number_bytes, sheet_bytes, table_of
 
 # The kinds whose vectors are made.
-KINDS = "nstwrkpvq"
+KINDS = "nstwrkpvqcfoe"
 
 FOLDER = Path(__file__).resolve().parent.parent / "crates" / "vectors"
 LONGEST_BODY = 4096  # what the program has room for
 WORK, TRACE = 65_520, 8_192  # the longest spaces that the program has
+KEPT_WORK, KEPT_OUTPUT = 8_192, 4_096  # the same where states are copied out after a search
 
 
 class Vector(NamedTuple):
@@ -97,9 +119,14 @@ def table_vector(label: str, table: Table) -> Vector:
     return Vector("t", label, table_bytes(table), f"table {ref.table_fault(table)}")
 
 
+def filled(length: int, first: int, step: int) -> bytes:
+    """What a space holds before it is lent."""
+    return bytes((i * step + first) % 256 for i in range(length))
+
+
 def written(table: Table, length: int) -> str:
     """The writer's answer, and its output of some length."""
-    output = bytes((i * 37 + 11) % 256 for i in range(length))
+    output = filled(length, 11, 37)
     try:
         size, output = ref.write_sheet(table, output)
         answer = f"{size}"
@@ -171,6 +198,79 @@ def search_vector(label: str, sheet: bytes, work: int, trace: int, fill: int) ->
 def call_vector(label: str, sheet: bytes, work: int, trace: int, fill: int) -> Vector:
     number = ref.verdict_number(ref.search_sheet(sheet, work, trace))
     return Vector("q", label, search_body(sheet, work, trace, fill), f"call {number}")
+
+
+def judged(table: Table, file: bytes) -> str:
+    try:
+        return "accepted" if ref.closed(table, file) else "no"
+    except ref.Refused as refused:
+        return f"refused {refused.number}"
+
+
+def judged_for(sheet: bytes, file: bytes) -> str:
+    fault = ref.refusal(ref.read_sheet, sheet)
+    return f"refused {fault}" if fault else judged(ref.read_sheet(sheet), file)
+
+
+def closed_vector(label: str, sheet: bytes, file: bytes) -> Vector:
+    line = f"closed {judged_for(sheet, file)} {ref.closed_number(sheet, file)}"
+    return Vector("c", label, bytes([len(sheet)]) + sheet + file, line)
+
+
+def file_vector(label: str, table: Table, file: bytes) -> Vector:
+    return Vector("f", label, table_bytes(table) + file, f"file {judged(table, file)}")
+
+
+def copied(work: bytes, count: int, output: bytes) -> tuple[str, bytes]:
+    """The answer of the copy, and the output after it."""
+    try:
+        length, output = ref.copy_states(work, count, output)
+        return f"{length}", output
+    except ref.Refused as refused:
+        return f"refused {refused.number}", output
+
+
+def copy_vector(label: str, work: bytes, count: int, length: int) -> Vector:
+    output = filled(length, 11, 37)
+    answer, after = copied(work, count, output)
+    left = after.hex() or "empty"
+    line = f"copy {answer} {left} {ref.copied_number(work, count, output)} {left}"
+    return Vector("o", label, count.to_bytes(4, "little") + bytes([length]) + work, line)
+
+
+def by_level(table: Table) -> list[State]:
+    """The states that lists reach, up to the level before a miss, in the order of the ticks that they take."""
+    states: list[State] = []
+    for level in ref.levels(table):
+        states += sorted(level.reached - set(states))
+    return states
+
+
+def searched(sheet: bytes, work: bytes, count: int) -> bytes:
+    """A work space after its search, as far as its first `count` states and its bytes after the slots written tell.
+    No state of d + 1 ticks is stored while one of d ticks is still to be tried for a miss, so the slots are in the
+    order of the levels. Within a level it is free: then `count` has to be such that the order does not matter."""
+    found = ref.search_sheet(sheet, len(work), TRACE)
+    if found.kind == "refused":
+        return work
+    table = ref.read_sheet(sheet)
+    if 0 < count <= ref.slots(len(work)):
+        assert min(count, found.N) in {len(level.reached) for level in ref.levels(table)}
+    slots = [ref.state_bytes(state) + bytes(8) for state in by_level(table)[: found.N]]
+    return b"".join(slots) + work[24 * found.N :]
+
+
+def evidence_vector(label: str, sheet: bytes, work: int, output: int, count: int, fill: int) -> Vector:
+    assert work <= KEPT_WORK and output <= KEPT_OUTPUT
+    space = searched(sheet, filled(work, fill, 29), count)
+    answer, after = copied(space, count, filled(output, 11, 37))
+    line = f"evidence {answer} later 0"
+    if not answer.startswith("refused"):
+        file = after[: int(answer)]
+        digest = sum(map(state_hash, ref.file_states(file))) % 2**32
+        line += f" wrong 0 digest {digest} {judged_for(sheet, file)}"
+    given = b"".join(x.to_bytes(4, "little") for x in (work, output, count)) + bytes([fill])
+    return Vector("e", label, bytes([len(sheet)]) + sheet + given, line)
 
 
 # ----------------------------------------------------------------------
@@ -666,19 +766,23 @@ def space_searches() -> Iterator[Search]:
         yield two._replace(label=f"two tasks, spaces filled from {fill}", fill=fill, work=5 * 24 + 7, trace=9)
 
 
+def refused_sheets(sheet: bytes) -> tuple[tuple[int, bytes], ...]:
+    """Sheets with each refusal, made of one with two tasks whose numbers have a byte each."""
+    return (
+        (1, sheet[:-1]),
+        (2, sheet[:-1] + b"\x84\x00"),
+        (3, sheet_of(2, *sheet[1:])),
+        (4, sheet_of(3, 4, *sheet[2:])),
+        (5, sheet_of(*sheet[:2], 9, *sheet[3:])),
+        (6, sheet_of(*sheet[:3], 0, *sheet[4:])),
+        (7, sheet_of(*sheet[:-1], sheet[-1] - 1)),
+        (8, sheet + b"\x00"),
+    )
+
+
 def refused_searches() -> Iterator[Search]:
     """A sheet's refusal comes before 9 and 10."""
-    sheets = (
-        (1, PAPER[:-1]),
-        (2, PAPER[:-1] + b"\x84\x00"),
-        (3, sheet_of(2, *PAPER[1:])),
-        (4, sheet_of(3, 4, *PAPER[2:])),
-        (5, sheet_of(3, 0, 9, *PAPER[3:])),
-        (6, sheet_of(3, 0, 1, 0, *PAPER[4:])),
-        (7, sheet_of(*PAPER[:-1], 3)),
-        (8, PAPER + b"\x00"),
-    )
-    for number, sheet in sheets:
+    for number, sheet in refused_sheets(PAPER):
         yield Search(f"{number} before 9: empty spaces", sheet, 0, 0)
         yield Search(f"{number} before 10: no trace", sheet, 240 + number, 0, 17 * number)
     yield Search("no sheet and empty spaces", b"", 0, 0)
@@ -739,6 +843,316 @@ def call_vectors() -> Iterator[Vector]:
 
 
 # ----------------------------------------------------------------------
+# Files of states
+
+
+def safe_states(table: Table) -> list[State]:
+    """The states of a Safe search."""
+    verdict = ref.verdict(table, ref.MOST_SLOTS)
+    assert verdict.kind == "safe", table
+    return sorted(ref.stored_states(table, verdict))
+
+
+def next_states(table: Table, states: Iterable[State]) -> set[State]:
+    """Where legal masks lead from these states, proper or not, with a miss or without."""
+    released = {ref.release(table, s, mask) for s in states for mask in range(2**table.n) if ref.is_legal(table, s, mask)}
+    return {ref.run(state, ref.choose(table, state)) for state in released}
+
+
+def with_steps(table: Table, states: Iterable[State]) -> list[State]:
+    """These states, and all that legal masks lead to from them without a miss."""
+    reached, newest = set(states), set(states)
+    while newest:
+        newest = {state for state in next_states(table, newest) if not ref.is_late(table, state)} - reached
+        reached |= newest
+    return sorted(reached)
+
+
+def misses(table: Table, states: Iterable[State]) -> bool:
+    return any(ref.is_late(table, state) for state in next_states(table, states))
+
+
+class File(NamedTuple):
+    """A file, and the table that it is judged for."""
+
+    label: str
+    table: Table
+    data: bytes
+
+
+def file_of(label: str, table: Table, states: Iterable[State]) -> File:
+    return File(label, table, ref.file_of(states))
+
+
+def order_files() -> Iterator[File]:
+    """Files of Safe searches: in several orders, with repeats, without a state."""
+    for (policy, name), tasks in product(enumerate(NAMES), (TWO, [(1, 2, 3), (2, 4, 5)])):
+        table = table_of(policy, 1, tasks)
+        own, label = safe_states(table), f"{name} {tasks}"
+        yield file_of(f"{label}, in order", table, own)
+        yield file_of(f"{label}, reversed", table, own[::-1])
+        yield file_of(f"{label}, from the third state on", table, own[2:] + own[:2])
+        yield file_of(f"{label}, a state twice", table, own + own[1:2])
+        yield file_of(f"{label}, every state twice", table, own + own[::-1])
+        yield file_of(f"{label}, the last state twice, without the first", table, own[1:] + own[-1:])
+        for i in range(len(own)):
+            yield file_of(f"{label}, without state {i + 1}", table, own[:i] + own[i + 1 :])
+    # many states, and eight tasks
+    for policy, name in enumerate(NAMES):
+        three = table_of(policy, 2, [(2, 3, 4), (1, 4, 5), (1, 5, 6)])
+        yield file_of(f"{name}, three tasks on two cores", three, safe_states(three)[::-1])
+        eight = table_of(policy, 8, [(1, 1, 1)] * 6 + [(1, 1, 2)] * 2)
+        yield file_of(f"{name}, eight tasks", eight, safe_states(eight))
+        yield file_of(f"{name}, eight tasks, without the last state", eight, safe_states(eight)[:-1])
+    long_gap = table_of(1, 1, [(1, 1, 200)])
+    own = safe_states(long_gap)
+    yield file_of("200 states", long_gap, own)
+    yield file_of("200 states, without state 100", long_gap, own[:99] + own[100:])
+    yield file_of("200 states, state 2 in the place of the last", long_gap, own[:199] + own[1:2])
+
+
+def changed_files() -> Iterator[File]:
+    """One byte changed, at each place of a state, in one state and another; and bytes out of their places."""
+    table = table_of(1, 1, TWO)
+    data = ref.file_of(safe_states(table))
+    for place, value in product(range(16), (1, 128)):
+        at = 16 * ((place + value) % 4) + place
+        yield File(f"two tasks, byte {at} ^ {value}", table, data[:at] + bytes([data[at] ^ value]) + data[at + 1 :])
+    yield File("two tasks, two bytes swapped", table, data[:16] + data[17:18] + data[16:17] + data[18:])
+    yield File("two tasks, moved by a byte", table, data[1:] + data[:1])
+    yield File("two tasks, moved by two bytes", table, data[2:] + data[:2])
+    yield File("two tasks, each state backwards", table, b"".join(data[at : at + 16][::-1] for at in range(0, 64, 16)))
+
+
+def improper_files() -> Iterator[File]:
+    """A state that is improper, by each rule, and nothing else that is wrong: all that it leads to is there, and
+    nothing misses. Two started jobs on one core are improper under NP alone."""
+    for policy, name in enumerate(NAMES):
+        one, two = table_of(policy, 2, [(2, 4, 5)]), table_of(policy, 1, [(2, 4, 4), (2, 4, 4)])
+        for fault, table, wrong in (
+            ("c above C", one, state_of((3, 5))),
+            ("p above P", one, state_of((0, 6))),
+            ("p above P, c above 0", one, state_of((2, 6))),
+            ("slack -1", one, state_of((1, 1))),
+            ("p after the nth", one, state_of((0, 0), (0, 1))),
+            ("c and p after the nth", one, state_of((0, 0), (1, 1))),
+            ("p of task 8, n 1", one, state_of(*[(0, 0)] * 7, (0, 1))),
+            ("two started on one core", two, state_of((1, 3), (1, 3))),
+        ):
+            states = with_steps(table, [*safe_states(table), wrong])
+            improper = [state for state in states if not ref.is_proper(table, state)]
+            assert improper == ([] if table == two and ref.is_preempted(table) else [wrong])
+            assert not misses(table, states)
+            yield file_of(f"{name}, {fault}", table, states)
+            yield file_of(f"{name}, {fault}, as the last state", table, [*(x for x in states if x != wrong), wrong])
+
+
+def reached_by(table: Table, is_given: Callable[[int, int], bool]) -> list[State]:
+    """What is reached by some of the legal masks, told by the mask and that of all tasks that may be released."""
+    reached, newest = {START}, {START}
+    while newest:
+        after = [(step, max(ref.successors(table, state))[0]) for state in newest for step in ref.successors(table, state)]
+        newest = {state for (mask, _, state), free in after if is_given(mask, free)} - reached
+        reached |= newest
+    return sorted(reached)
+
+
+def mask_files() -> Iterator[File]:
+    """Files that are closed for some of the legal masks, and not for all."""
+    rules: list[tuple[str, Callable[[int, int], bool]]] = [
+        ("only 0", lambda mask, free: mask == 0),
+        ("0 and all that may be released", lambda mask, free: mask in (0, free)),
+        ("at most one task", lambda mask, free: mask & (mask - 1) == 0),
+    ]
+    for number in range(1, 8):
+        rules.append((f"all but {number}", lambda mask, free, number=number: mask != number))
+    tables = [(f"{name}, three tasks", table_of(policy, 1, [(1, 3, 3)] * 3), rules) for policy, name in enumerate(NAMES)]
+    seven = ("all but 127", lambda mask, free: mask != 127), ("all but 64", lambda mask, free: mask != 64)
+    tables.append(("seven tasks", table_of(2, 7, [(1, 1, 2)] * 7), [*seven]))
+    for label, table, some in tables:
+        own = safe_states(table)
+        yield file_of(f"{label}, every mask", table, own)
+        for rule, is_given in some:
+            states = reached_by(table, is_given)
+            assert set(states) < set(own)
+            yield file_of(f"{label}, of masks {rule}", table, states)
+
+
+def superset_files() -> Iterator[File]:
+    """Proper states that no list reaches: with all that they lead to, without a part of it, and with a miss."""
+    for policy, name in enumerate(NAMES):
+        table = table_of(policy, 1, [(1, 2, 3), (2, 4, 5)])
+        own = safe_states(table)
+        for label, extra in (("p = P", state_of((0, 3), (0, 5))), ("c = 1, p = P", state_of((1, 3), (1, 5)))):
+            states = with_steps(table, [*own, extra])
+            more = [state for state in states if state not in own]
+            assert extra in more and len(more) > 1 and not misses(table, states)
+            yield file_of(f"{name}, {label} and what it leads to", table, states)
+            yield file_of(f"{name}, {label} alone", table, [*own, extra])
+            yield file_of(f"{name}, what {label} leads to, without the start state", table, [x for x in states if x != START])
+            for i, state in enumerate(more):
+                yield file_of(f"{name}, {label}, without state {i + 1} of those", table, [x for x in states if x != state])
+        late = state_of((1, 2), (2, 3))
+        assert ref.is_proper(table, late) and misses(table, [late])
+        yield file_of(f"{name}, a state that misses, and what else it leads to", table, with_steps(table, [*own, late]))
+
+
+def unsafe_files() -> Iterator[File]:
+    """The states of Unsafe searches, and all that is reached without a miss: proper, and nothing wrong but misses."""
+    paper = [(policy, [(2, 2, 2), (1, 2, 2)]) for policy in range(4)] + [(0, [(1, 1, 2), (2, 4, 4)])]
+    for policy, tasks in paper + [(policy, tasks) for policy, _, tasks in MISSES]:
+        table = table_of(policy, 1, tasks)
+        kept = with_steps(table, [START])
+        assert misses(table, kept) and all(ref.is_proper(table, state) for state in kept)
+        if len(kept) > 60:
+            continue
+        yield file_of(f"{NAMES[policy]} {tasks}, unsafe", table, by_level(table))
+        yield file_of(f"{NAMES[policy]} {tasks}, unsafe, all without a miss", table, kept)
+
+
+def length_files() -> Iterator[File]:
+    """14, and the shortest files."""
+    two, one = table_of(1, 1, TWO), table_of(0, 1, [(1, 1, 1)])
+    data = ref.file_of(safe_states(two))
+    for length in (0, 1, 15, 16, 17, 31, 32, 33, 48, 63, 64):
+        yield File(f"two tasks, the first {length} bytes", two, data[:length])
+    yield File("two tasks, a byte more", two, data + b"\x00")
+    yield File("two tasks, a start state more", two, data + bytes(16))
+    yield File("two tasks, a state of bytes 255 more", two, data + b"\xff" * 16)
+    for length in (0, 1, 15, 16, 17, 32, 4000):
+        yield File(f"a task with one state, {length} bytes 0", one, bytes(length))
+
+
+def foreign_files() -> Iterator[File]:
+    """The file of one table judged for another: of each policy for each, whose states all differ, and with one number
+    of the table another."""
+    tables = [table_of(policy, 1, [(2, 6, 6), (2, 4, 4)]) for policy in range(4)]
+    assert len({tuple(safe_states(table)) for table in tables}) == 4
+    for maker, judge in product(tables, repeat=2):
+        yield file_of(f"the file of {NAMES[maker.policy]} for {NAMES[judge.policy]}", judge, safe_states(maker))
+    table = table_of(3, 1, [(1, 2, 3), (2, 4, 5)])
+    for label, other in (
+        ("two cores", changed(table, m=2)),
+        ("one task", table_of(3, 1, [(1, 2, 3)])),
+        ("a third task", table_of(3, 1, [(1, 2, 3), (2, 4, 5), (1, 6, 6)])),
+        ("the tasks swapped", table_of(3, 1, [(2, 4, 5), (1, 2, 3)])),
+        ("C more", table_of(3, 1, [(2, 2, 3), (2, 4, 5)])),
+        ("D less", table_of(3, 1, [(1, 2, 3), (2, 3, 5)])),
+        ("D less, unsafe", table_of(3, 1, [(1, 2, 3), (2, 2, 5)])),
+        ("D more", table_of(3, 1, [(1, 3, 3), (2, 4, 5)])),
+        ("P less", table_of(3, 1, [(1, 2, 3), (2, 4, 4)])),
+        ("P more", table_of(3, 1, [(1, 2, 3), (2, 4, 6)])),
+    ):
+        yield file_of(f"the file of another table: {label}", other, safe_states(table))
+
+
+def drawn_files() -> Iterator[File]:
+    """Files of drawn tables: shuffled, then without a state, with a byte changed, or with states that none reaches."""
+    dice, number = Dice(3), 0
+    while number < 24:
+        table = dice.table(8)
+        if not 2 <= (verdict := ref.verdict(table, 40)).N <= 40 or verdict.kind != "safe":
+            continue
+        number += 1
+        states = safe_states(table)
+        if number % 4 == 1:
+            states = with_steps(table, [*states, dice.proper_state(table)])
+        for i in range(len(states) - 1, 0, -1):
+            j = dice.below(i + 1)
+            states[i], states[j] = states[j], states[i]
+        data = ref.file_of(states[number % 4 == 2 :])
+        if number % 4 == 3:
+            at = dice.below(len(data))
+            data = data[:at] + bytes([dice.below(256)]) + data[at + 1 :]
+        yield File(f"drawn {number}", table, data)
+
+
+def closed_vectors() -> Iterator[Vector]:
+    makers = (order_files, mask_files, changed_files, improper_files, superset_files, unsafe_files, length_files, foreign_files, drawn_files)
+    for files in makers:
+        yield from (closed_vector(label, sheet_bytes(table), data) for label, table, data in files())
+    # a sheet's refusal comes before 14
+    two = table_of(1, 1, TWO)
+    own = ref.file_of(safe_states(two))
+    for number, sheet in refused_sheets(sheet_bytes(two)):
+        assert ref.refusal(ref.read_sheet, sheet) == number
+        for data, name in ((own, "a closed file"), (own[16:], "another file"), (b"", "no file"), (own[:15], "15 bytes")):
+            yield closed_vector(f"{number}: {name}", sheet, data)
+    yield closed_vector("no sheet, no file", b"", b"")
+
+
+def file_vectors() -> Iterator[Vector]:
+    two = table_of(1, 1, TWO)
+    own = ref.file_of(safe_states(two))
+    for data, name in ((own, "a closed file"), (own[16:], "another file"), (b"", "no file"), (own[:17], "17 bytes")):
+        yield file_vector(f"two tasks, {name}", two, data)
+        yield file_vector(f"policy 4, {name}", changed(two, policy=4), data)
+        yield file_vector(f"m 0, {name}", changed(two, m=0), data)
+        yield file_vector(f"m 9, {name}", changed(two, m=9), data)
+        yield file_vector(f"n 0, {name}", changed(two, n=0), data)
+        yield file_vector(f"n 9, {name}", changed(two, n=9), data)
+        yield file_vector(f"C above D, {name}", changed(two, C=entry(two.C, 1, 3)), data)
+        yield file_vector(f"n 1 before two tasks, {name}", changed(two, n=1), data)
+        yield file_vector(f"an entry after the nth, {name}", changed(two, P=entry(two.P, 7, 1)), data)
+        yield file_vector(f"order: all wrong, {name}", Table(4, 0, 0, (1,) * 8, (0,) * 8, (0,) * 8), data)
+    for label, table, data in improper_files():
+        yield file_vector(label, table, data)
+
+
+def copy_vectors() -> Iterator[Vector]:
+    """Copies out of a work space whose bytes are all known."""
+    work = filled(5 * 24 + 7, 3, 7)
+    for count in (0, 1, 2, 4, 5, 6):
+        for length in sorted({0, 15, 16 * count, 16 * count + 1, 255} | ({16 * count - 1} if count else set())):
+            yield copy_vector(f"{count} of 5 slots into {length} bytes", work, count, length)
+    for size in (0, 1, 16, 23, 24, 25, 47, 48):
+        for count in (0, 1, 2):
+            yield copy_vector(f"{count} of a work space of {size} bytes", filled(size, 200, 31), count, 33)
+    for count in (255, 256, 261, 65_536, 65_541, 999_999, 1_000_000, 1_000_001, 2**24 + 5, 2**31, 2**32 - 1):
+        yield copy_vector(f"{count} of 5 slots", work, count, 100)
+    more = filled(24 * 20, 1, 5)
+    for count, length in ((15, 239), (15, 240), (15, 255), (16, 255), (20, 255), (21, 255)):
+        yield copy_vector(f"{count} of 20 slots into {length} bytes", more, count, length)
+
+
+def kept_copies(label: str, search: Search, K: int, counts: Iterable[int]) -> Iterator[Vector]:
+    """Copies after a search with K slots and some bytes, into an output just long enough, longer, and a byte short."""
+    work = 24 * K + (7 * K) % 24
+    for count in counts:
+        for length in (16 * count, 16 * count + 21, 16 * count - 1):
+            if 0 <= length:
+                name = f"{label}, K {K}: {count} states into {length} bytes"
+                yield evidence_vector(name, search.sheet, work, length, count, search.fill)
+
+
+def evidence_vectors() -> Iterator[Vector]:
+    for policy, name in enumerate(NAMES):
+        two = of_table(f"{name}, two tasks", policy, 1, TWO)
+        yield from kept_copies(two.label, two, 4, (0, 1, 4, 5))
+        yield from kept_copies(two.label, two, 6, (4, 5, 6, 7))
+        yield from kept_copies(f"{two.label}, no room", two, 3, (1, 4))
+        more = of_table(f"{name}, 24 states", policy, 1, [(2, 6, 6), (2, 4, 4)])
+        N = count_of(more)
+        yield from kept_copies(more.label, more, N, (1, N, N + 1))
+        yield from kept_copies(more.label, more, 170, (N, 170, 171))
+        unsafe = of_table(f"{name}, unsafe", policy, 1, [(2, 2, 2), (1, 2, 2)])
+        yield from kept_copies(unsafe.label, unsafe, 10, (1, count_of(unsafe), 10, 11))
+        yield from kept_copies(f"{name}, one state", of_table("", policy, 1, [(1, 1, 1)]), 1, (0, 1, 2))
+    paper = Search("the paper's sheet, unsafe", PAPER)
+    yield from kept_copies(paper.label, paper, 5, (1, 4, 5, 6))
+    # a state a level, so that the order of the slots is known
+    long_gap = of_table("200 states", 1, 1, [(1, 1, 200)])
+    yield from kept_copies(long_gap.label, long_gap, 200, (1, 2, 100, 199, 200, 201))
+    yield from kept_copies(long_gap.label, long_gap, 340, (200, 250))
+    yield from kept_copies(f"{long_gap.label}, no room", long_gap, 199, (1, 150, 199, 200))
+    # the bytes that were there are copied where there was no search
+    for number, sheet in refused_sheets(PAPER):
+        yield from kept_copies(f"refusal {number}", Search("", sheet), 2, (2, 3))
+    for work, count in ((0, 0), (0, 1), (23, 1), (24, 1)):
+        yield evidence_vector(f"two tasks, work {work}: {count} states", sheet_bytes(table_of(1, 1, TWO)), work, 40, count, 90)
+
+
+# ----------------------------------------------------------------------
 # The files
 
 MAKERS = {
@@ -751,6 +1165,10 @@ MAKERS = {
     "p": replay_vectors,
     "v": search_vectors,
     "q": call_vectors,
+    "c": closed_vectors,
+    "f": file_vectors,
+    "o": copy_vectors,
+    "e": evidence_vectors,
 }
 
 

@@ -1,6 +1,7 @@
 // Runs outside vectors over the library: reads records from standard input and prints a line for each.
 // A record is a kind, the length of its body in two bytes, low byte first, and the body;
 // tests/make_vectors.py makes the records and the lines expected, and says what each kind holds.
+mod files;
 mod number;
 mod sheet;
 mod slots;
@@ -24,6 +25,10 @@ fn answer(kind: u8, body: &[u8]) {
         b'p' => tick::replay(body),
         b'v' => verdicts::search(body),
         b'q' => verdicts::call(body),
+        b'c' => files::judge(body),
+        b'f' => files::judge_table(body),
+        b'o' => files::copy(body),
+        b'e' => files::keep(body),
         _ => text::unknown(),
     }
 }

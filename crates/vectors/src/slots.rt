@@ -15,7 +15,7 @@ pub fn first(work: &[u8], count: usize) -> &[u8] {
 }
 
 // The bytes from a slot on, and none after the last slot.
-fn slot(slots: &[u8], i: usize) -> &[u8] {
+pub fn slot(slots: &[u8], i: usize) -> &[u8] {
     if i < slots.len() / 24 {
         return &slots[24 * i..];
     }
@@ -70,8 +70,8 @@ pub fn spare_used(slots: &[u8]) -> usize {
     count
 }
 
-// Whether two slots have the same state.
-fn same(a: &[u8], b: &[u8]) -> bool {
+// Whether two slots, or a slot and the bytes of a state, have the same state.
+pub fn same(a: &[u8], b: &[u8]) -> bool {
     let mut i: usize = 0;
     while i < 16 && text::byte(a, i) == text::byte(b, i) {
         i += 1;
