@@ -6,3 +6,4 @@ pub mod Theorems
 pub mod PendingLaws
 pub mod RowLaws
 pub mod AnswerLaws
+pub mod SoundLaws
