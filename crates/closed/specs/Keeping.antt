@@ -1,6 +1,6 @@
 -- Only the checker's bookkeeping, no part of its claim: what its parts ask of each other and promise.
 use mathlib.Core.Path.{_≡_}
-use mathlib.Core.Bool.{Bool, true, false, not, _||_}
+use mathlib.Core.Bool.{Bool, true, false, not, _&&_, _||_}
 use mathlib.Core.List.{List}
 use Prim.Native.Nat.{ℕ, _+_, _-_, _*_, _/_, _%_, _<_, _≤_, min}
 use lib.Bits.{bitAnd}
@@ -8,11 +8,10 @@ use lib.Dec.{eqb, ltb}
 use lib.ListN.{length, getD}
 use mir.Syntax.{w8}
 use mir.Val.{Fits}
-use Rattle.tasks.specs.Lists.{pick}
+use Rattle.tasks.specs.Lists.{pick, count}
 use Rattle.tasks.specs.Table.{tableFault}
-use Rattle.tasks.specs.State.{improper}
+use Rattle.tasks.specs.State.{notPreempted, started, improper}
 use Rattle.tasks.specs.Tick.{illegal, after}
-use Rattle.tasks.specs.Tight.{tight}
 use Rattle.tasks.specs.Ticker.{tickerOf}
 use Rattle.tasks.specs.declared.state.State.{State}
 use Rattle.tasks.specs.declared.table.Table.{Table}
@@ -177,18 +176,17 @@ pub record RowWaits (t : Table) (file : List ℕ) (n : ℕ) (D : ℕ → ℕ →
   pub from : (k : ℕ) → count ≤ k → k < next → From t file (keyAt new k)
   pub inside : AllHeld file n new next → Inside t file D
 
--- ---- states seen at once to be sound
+-- ---- proper states, by two tests
 
--- c of task i is above C, or p is above P
-unfoldable pub exceedsAt : Table → State → ℕ → Bool
-exceedsAt t s i = ltb (getD (t .work) i 0) (getD (s .c) i 0) || ltb (getD (t .gap) i 0) (getD (s .p) i 0)
+-- c of task i is above C
+unfoldable pub workAbove : Table → State → ℕ → Bool
+workAbove t s i = ltb (getD (t .work) i 0) (getD (s .c) i 0)
 
--- s is proper, and none of its jobs is tight
-pub record Plain (t : Table) (s : State) : Type 0 where
-  pub proper : improper t s ≡ false
-  pub loose : tight t s ≡ false
+-- p of task i is above P
+unfoldable pub gapAbove : Table → State → ℕ → Bool
+gapAbove t s i = ltb (getD (t .gap) i 0) (getD (s .p) i 0)
 
--- true where s is plain; false says nothing
-abbrev pub PlainIs : Table → State → Bool → Type 0
-PlainIs t s true = Plain t s
-PlainIs t s false = Unit {0}
+-- some task is above its numbers, or more than m jobs keep a processor
+unfoldable pub exceeds : Table → State → Bool
+exceeds t s =
+    ltb 0 (count 8 (workAbove t s)) || ltb 0 (count 8 (gapAbove t s)) || (notPreempted t && ltb (t .m) (count 8 (started t s)))

@@ -32,8 +32,8 @@ pub use tick::Ticked;
 pub use writer::Writing;
 pub use writer::write_sheet;
 
-// The inner interface, for the layers above: it takes any table, any state and any words, and refuses nothing. `Table::ticker`,
-// `State::improper`, `State::words` and `State::of_words` are of it.
+// The inner interface, for the layers above: it takes any table and any words, and refuses nothing. `Table::ticker`, `State::words` and
+// `State::of_words` are of it.
 pub use slack::tight;
 pub use ticker::Prepared;
 pub use ticker::Ticker;

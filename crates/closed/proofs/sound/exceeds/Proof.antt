@@ -1,81 +1,42 @@
--- The tasks before place i are looked at. Assumes nothing.
-use native.Mathlib.Omega.{arith}
-use Prim.Native.Nat.{_≤_, _-_}
-use mathlib.Core.Path.{_≡_}
-use Rattle.tasks.specs.Lists.{any}
+-- The three counts. Assumes nothing.
 use Rattle.tasks.specs.Words.{stateOf}
-use Rattle.tasks.proofs.Turns.{any-none, any-turn, any-end}
-use Rattle.closed.specs.Keeping.{exceedsAt}
-use Rattle.closed.proofs.SoundLaws.{exceeds-word}
+use Rattle.closed.proofs.SoundLaws.{exceeds-work, exceeds-gap, exceeds-kept}
 use borrow.Author.Needs.{needs}
 use Rattle.closed.proofs.sound.exceeds.Statement.{statement}
 use Rattle.closed.proofs.sound.exceeds.Tie as tie
 
-abbrev Inv-loop : tie.InvT-loop
-Inv-loop t v found₀ i₀ found i = (i ≤ 8) × (found ≡ any i (exceedsAt t (stateOf v)))
+count-work-above-requires : tie.Need-count-work-above-requires
+count-work-above-requires c κs = search needs
 
-abbrev μ-loop : tie.MeasureT-loop
-μ-loop t v found₀ i₀ found i = 8 - i
-
-loop-holds : tie.Need-loop-holds Inv-loop μ-loop
-loop-holds c = (omega arith, any-none (exceedsAt (c .args .t1) (stateOf (c .args .t2))))
-
-mul-work-in : tie.Need-mul-work-in Inv-loop μ-loop
-mul-work-in c = search needs
-
-array-read-work-in : tie.Need-array-read-work-in Inv-loop μ-loop
-array-read-work-in c = search needs
-
-work-in-requires : tie.Need-work-in-requires Inv-loop μ-loop
-work-in-requires c κs = search needs
-
-mul-gap-in : tie.Need-mul-gap-in Inv-loop μ-loop
-mul-gap-in c = search needs
-
-array-read-gap-in : tie.Need-array-read-gap-in Inv-loop μ-loop
-array-read-gap-in c = search needs
-
-gap-in-requires : tie.Need-gap-in-requires Inv-loop μ-loop
-gap-in-requires c κs = search needs
-
-element-copy-out-work : tie.Need-element-copy-out-work Inv-loop μ-loop
-element-copy-out-work c = search needs
-
-element-copy-out-gap : tie.Need-element-copy-out-gap Inv-loop μ-loop
-element-copy-out-gap c = search needs
-
-add-i : tie.Need-add-i Inv-loop μ-loop
-add-i c = search needs
-
-loop-less : tie.Need-loop-less Inv-loop μ-loop
-loop-less c = search needs
-
-loop-again : tie.Need-loop-again Inv-loop μ-loop
-loop-again c =
-    let h = c .before .before .before .before .before in
-    (omega arith, any-turn (exceedsAt (h .before .args .t1) (stateOf (h .before .args .t2))) (h .loop .i) (h .loop .inv .1) (rw (c .before .before .gap-in .ensures, c .before .before .before .work-in .ensures) (exceeds-word (h .before .args .t1) (h .before .args .t2) (h .loop .i) (omega arith))))
-
-returns : tie.Need-returns Inv-loop μ-loop
+returns : tie.Need-returns
 returns c =
-    let h = c .before in
-    any-end (exceedsAt (h .before .args .t1) (stateOf (h .before .args .t2))) (h .loop .inv .1) (h .loop .inv .0) (c .loop-test .left)
+    let a = c .before .before .args in
+    exceeds-work (a .t) (stateOf (a .v)) (c .before .count-work-above .ensures) (c .if1 .taken)
+
+count-gap-above-requires : tie.Need-count-gap-above-requires
+count-gap-above-requires c κs = search needs
+
+returns-2 : tie.Need-returns-2
+returns-2 c =
+    let a = c .before .before .before .before .args in
+    exceeds-gap (a .t) (stateOf (a .v)) (c .before .count-gap-above .ensures) (c .if2 .taken)
+
+count-started-requires : tie.Need-count-started-requires
+count-started-requires c κs = search needs
+
+returns-3 : tie.Need-returns-3
+returns-3 c =
+    let h = c .before .before in
+    let a = h .before .before .before .before .args in
+    exceeds-kept (a .t) (stateOf (a .v)) (h .before .before .before .count-work-above .ensures) (h .before .before .if1 .left) (h .before .count-gap-above .ensures) (h .if2 .left) (c .before .count-started .ensures)
 
 pub exceeds-spec : {M : Type 1} → statement M
 exceeds-spec =
     tie.close
     (tie.spec
-    Inv-loop
-    μ-loop
-    loop-holds
-    mul-work-in
-    array-read-work-in
-    work-in-requires
-    mul-gap-in
-    array-read-gap-in
-    gap-in-requires
-    element-copy-out-work
-    element-copy-out-gap
-    add-i
-    loop-less
-    loop-again
-    returns)
+    count-work-above-requires
+    returns
+    count-gap-above-requires
+    returns-2
+    count-started-requires
+    returns-3)
