@@ -1,6 +1,6 @@
 """Files of states, evidence of `safe` or not: what the definition says of a file, and files for run-tool.
 
-The definition is document 02's, over the states and ticks of tests/reference.py: a file is closed when the start state is in it, every
+The definition is document 02's, in tests/reference.py: a file is closed when the start state is in it, every
 state in it is proper, and every legal mask from each leads, without a miss, to a state in it.
 """
 from itertools import product
@@ -9,21 +9,13 @@ from random import Random
 from typing import Iterator
 
 import reference
-from reference import START, State, Table
+from reference import START, State, Table, file_of, state_of
 
-BYTES = reference.TASKS * 2  # of a state
+BYTES = reference.STATE
 
 
 def pieces(file: bytes) -> list[bytes]:
     return [file[at : at + BYTES] for at in range(0, len(file), BYTES)]
-
-
-def state_of(piece: bytes) -> State:
-    return State(tuple(piece[::2]), tuple(piece[1::2]))
-
-
-def file_of(states) -> bytes:
-    return b"".join(map(reference.state_bytes, states))
 
 
 def leads_within(table: Table, state: State, states: set[State]) -> bool:
@@ -33,11 +25,10 @@ def leads_within(table: Table, state: State, states: set[State]) -> bool:
 
 def line(table: Table, file: bytes) -> str:
     """What `evidence` prints for a file, by the definition."""
-    if not file or len(file) % BYTES:
-        return "refused 14\n"
-    states = set(map(state_of, pieces(file)))
-    proper = all(reference.is_proper(table, state) for state in states)
-    closed = START in states and proper and all(leads_within(table, state, states) for state in states)
+    try:
+        closed = reference.closed(table, file)
+    except reference.Refused as refused:
+        return f"refused {refused.number}\n"
     return f"accepted {len(file) // BYTES}\n" if closed else "no\n"
 
 

@@ -2,11 +2,9 @@
 ghost use mathlib.Core.Path.{_≡_};
 ghost use Rattle.evidence.specs.Evidence.{statesSpace};
 ghost use Rattle.ronchhek.specs.Files.{statesNumber, FileJudged};
+use crate::tables::DONE;
 use closed::ClosedAnswer;
 use tasks::Writing;
-
-// 2^48: kind 1.
-const DONE: u64 = 281474976710656;
 
 // The states of the first `count` slots of a work space, copied out: kind × 2^48 + N, kind 1 with the length written, kind 0 with the refusal's number.
 #[no_mangle]

@@ -10,7 +10,7 @@ use tasks::Table;
 use tasks::Writing;
 
 // 2^48: kind 1.
-const DONE: u64 = 281474976710656;
+pub(crate) const DONE: u64 = 281474976710656;
 
 // One number of each of eight tasks, the first at `at` and then every third byte.
 fn column(b: &[u8], at: usize) -> [u8; 8]
