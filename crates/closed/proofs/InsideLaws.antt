@@ -1,33 +1,21 @@
 -- What the passes know so far, and when the file is closed. Assumes nothing.
-use Prim.Native.Nat.{ℕ, suc, _+_, _<_, _≤_}
-use mathlib.Core.Path.{_≡_, refl, sym, ap, _∙_}
+use Prim.Native.Nat.{ℕ, _+_, _<_, _≤_}
+use mathlib.Core.Path.{_≡_, ap, _∙_}
 use mathlib.Core.Logic.{_⊎_, ⊎-elim}
 use mathlib.Core.Logic._⊎_.{inl, inr}
-use mathlib.Core.Bool.{Bool, true, false, not, _&&_, _||_}
+use mathlib.Core.Bool.{false}
 use mathlib.Core.List.{List}
 use native.Mathlib.Omega.{arith}
 use native.Mathlib.Decide.{ℕ-discrete, decLt}
-use borrow.Author.Count.{below-more}
-use borrow.Author.Tests.{eqb-true, le-leb, lt-ltb, leb-true, ltb-true}
-use lib.Bits.{bitAnd}
-use lib.Dec.{eqb, leb, ltb}
-use lib.ListN.{length, getD}
 use Rattle.tasks.specs.Lists.{pick}
 use Rattle.tasks.specs.Table.{tableFault}
-use Rattle.tasks.specs.State.{start, improper}
-use Rattle.tasks.specs.Tick.{illegal, after, missed, answered, ticked}
-use Rattle.tasks.specs.Masks.{freeMask}
-use Rattle.tasks.specs.declared.state.State.{State}
+use Rattle.tasks.specs.State.{start}
+use Rattle.tasks.specs.Tick.{illegal, after, missed}
 use Rattle.tasks.specs.declared.table.Table.{Table}
-use Rattle.tasks.specs.declared.tick.TickAnswer.{TickAnswer}
 use Rattle.tasks.specs.declared.tick.TickAnswer.the-variants as Answer
-use Rattle.tasks.proofs.Bools.{by-bool, clash, both}
+use Rattle.tasks.proofs.Bools.{by-bool}
 use Rattle.tasks.proofs.Answered.{ticked-legal}
-use Rattle.tasks.proofs.More.{full-legal}
-use Rattle.tasks.proofs.Free.{free-full}
-use Rattle.levels.specs.Levels.{Calm}
 use Rattle.states.specs.Keys.{keyOf}
-use Rattle.states.specs.System.{system}
 use Rattle.states.proofs.MaskLaws.{legal-submask}
 use Rattle.states.proofs.SystemLaws.{step-missed}
 use Rattle.closed.specs.Closed.{statesIn, stateIn, Contains, Leads, Closed}

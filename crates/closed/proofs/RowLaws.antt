@@ -1,7 +1,7 @@
 -- The masks of one state in a pass, and the pass over proper states. Assumes nothing.
 use Prim.Native.Nat.{ℕ, _+_, _*_, _<_, _≤_}
-use mathlib.Core.Path.{_≡_, refl, sym, ap, _∙_}
-use mathlib.Core.Bool.{Bool, true, false, not, _&&_, _||_}
+use mathlib.Core.Path.{_≡_, refl, ap, _∙_}
+use mathlib.Core.Bool.{Bool, true, false, _&&_, _||_}
 use mathlib.Core.List.{List}
 use native.Mathlib.Omega.{arith}
 use native.Mathlib.Decide.{decLt}
@@ -18,7 +18,7 @@ use Rattle.tasks.specs.State.{improper}
 use Rattle.tasks.specs.Tick.{illegal, after, missed}
 use Rattle.tasks.specs.Masks.{freeMask}
 use Rattle.tasks.specs.Words.{stateOf}
-use Rattle.tasks.specs.Ticker.{tickerOf, tickedBy}
+use Rattle.tasks.specs.Ticker.{tickedBy}
 use Rattle.tasks.specs.declared.state.State.{State}
 use Rattle.tasks.specs.declared.table.Table.{Table}
 use Rattle.tasks.specs.declared.ticker.Prepared.{Prepared}
@@ -35,7 +35,7 @@ use Rattle.states.specs.System.{system}
 use Rattle.states.proofs.MaskTest.{submask}
 use Rattle.states.proofs.SystemLaws.{step-missed}
 use Rattle.states.proofs.MaskLaws.{Walked, walked-start, walked-next, submask-legal, legal-submask}
-use Rattle.closed.specs.Closed.{statesIn, stateIn, Contains, Closed}
+use Rattle.closed.specs.Closed.{statesIn, stateIn, Closed}
 use Rattle.closed.specs.Keeping.{classOf, landing, lands, Due, RowOf, SoundState, StateIs, Sound, Ready, keyAt, AllHeld, Grown, AfterWaits, From, RowWaits}
 use Rattle.closed.specs.declared.passes.Split.{Split}
 use Rattle.closed.specs.declared.passes.Pass.{Pass}

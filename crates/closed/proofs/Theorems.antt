@@ -15,7 +15,7 @@ use Rattle.levels.specs.Levels.{Calm}
 use Rattle.levels.proofs.Verdicts.{closed-law}
 use Rattle.states.specs.System.{step, system, tickOf}
 use Rattle.states.proofs.SystemLaws.{step-tick, step-legal}
-use Rattle.closed.specs.Closed.{statesIn, stateIn, Contains, Leads, Closed, Judged, TableJudged, SheetJudged}
+use Rattle.closed.specs.Closed.{Contains, Leads, Closed, Judged, TableJudged, SheetJudged}
 
 next-missed : {S : Type 0} {u v : S} → _≡_ {A = Tick S} (Next u) (Missed v) → ⊥
 next-missed e = let z : _≡_ {A = ℕ} 0 1 = cc in omega arith

@@ -1,6 +1,6 @@
 // The public calls: whether a file of states is closed, for a table and for a sheet.
 ghost use mathlib.Core.Path.{_≡_};
-ghost use Prim.Native.Nat.{_*_, _<_, _≤_};
+ghost use Prim.Native.Nat.{_<_};
 ghost use lib.ListN.{length};
 ghost use Rattle.tasks.specs.Table.{tableFault};
 ghost use Rattle.tasks.specs.Ticker.{tickerOf};

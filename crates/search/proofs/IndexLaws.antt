@@ -23,7 +23,6 @@ use Rattle.states.specs.Keys.{keyOf}
 use Rattle.search.specs.Slot.{stateAt, linkAt, keyAt, bucketFor, bucketOf, tagOf, newest, tagsIn, Indexed, Pushed}
 use Rattle.search.proofs.SlotLaws.{same-state, same-parent, same-mask}
 use Rattle.search.proofs.SlotLaws.{withSlot, slot-long, slot-old, link-old, slot-state, slot-parent, slot-mask, slot-link, slot-later}
-use Rattle.states.specs.declared.keys.Key.{Key}
 use Rattle.states.proofs.KeyLaws.{key-from, Bytes, bytes-from, one-state}
 
 -- no slot is written, and every head is 0

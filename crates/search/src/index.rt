@@ -5,7 +5,7 @@ ghost use mathlib.Core.Path.{_≡_};
 ghost use Prim.Native.Nat.{_+_, _*_, _^_, _<_, _≤_};
 ghost use lib.ListN.{length};
 ghost use Rattle.tasks.specs.Words.{stateOf};
-ghost use Rattle.states.specs.Keys.{keyOf, sameKeys, mixed};
+ghost use Rattle.states.specs.Keys.{sameKeys};
 ghost use Rattle.search.specs.Slot.{keyAt, bucketFor, tagFor, Indexed, HeldIs, Pushed};
 use crate::slots::four_at;
 use crate::slots::link_of;

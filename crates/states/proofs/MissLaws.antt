@@ -1,7 +1,7 @@
 -- Whether some mask misses from a proper state: one mask tells, and most states need no tick. Assumes nothing.
 use Prim.Native.Nat.{ℕ, _<_}
 use mathlib.Core.Path.{_≡_, refl, sym, ap, _∙_}
-use mathlib.Core.Bool.{Bool, true, false, _&&_}
+use mathlib.Core.Bool.{true, false}
 use mathlib.Core.List.{List}
 use native.Mathlib.Omega.{arith}
 use Rattle.tasks.specs.Table.{tableFault}
@@ -10,7 +10,7 @@ use Rattle.tasks.specs.Tick.{after, missed}
 use Rattle.tasks.specs.Masks.{freeMask}
 use Rattle.tasks.specs.Tight.{tight}
 use Rattle.tasks.specs.Words.{stateOf}
-use Rattle.tasks.specs.Ticker.{tickerOf, preparedBy, tickedBy, freeBy}
+use Rattle.tasks.specs.Ticker.{tickerOf, freeBy}
 use Rattle.tasks.specs.declared.state.State.{State}
 use Rattle.tasks.specs.declared.table.Table.{Table}
 use Rattle.tasks.specs.declared.ticker.Ticker.{Ticker}

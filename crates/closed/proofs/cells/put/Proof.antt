@@ -1,6 +1,4 @@
 -- An empty cell that the walk found is below the number of cells. Assumes nothing.
-use Prim.Native.Nat.{_<_}
-use lib.ListN.{length}
 use native.Mathlib.Omega.{arith}
 use borrow.Author.Needs.{needs}
 use Rattle.closed.proofs.cells.put.Statement.{statement}

@@ -1,11 +1,7 @@
 -- The file is refused, or it is judged. Assumes nothing.
-use mathlib.Core.Path.{_≡_, refl}
-use mathlib.Core.Bool.{true, false}
-use Prim.Native.Nat.{_<_}
 use Rattle.closed.specs.Closed.{closedAnswer}
 use Rattle.closed.proofs.AnswerLaws.{judged-refused, judged-accepted, judged-no, file-empty, file-left, file-whole, file-given}
 use native.Mathlib.Omega.{arith}
-use borrow.Author.Needs.{needs}
 use Rattle.closed.proofs.check.closed_valid.Statement.{statement}
 use Rattle.closed.proofs.check.closed_valid.Tie as tie
 

@@ -1,13 +1,9 @@
 -- Sound states, the start state, and every pair inside. Assumes nothing.
-use mathlib.Core.Path.{_≡_, refl, sym, ap, _∙_}
+use mathlib.Core.Path.{_≡_}
 use mathlib.Core.Bool.{true, false}
 use borrow.Author.Tests.{not-true, not-false}
 use Rattle.tasks.specs.State.{start}
 use Rattle.tasks.specs.Words.{stateOf}
-use Rattle.states.specs.Keys.{keyOf}
-use Rattle.levels.specs.Verdict.{Holds}
-use Rattle.closed.specs.Closed.{stateIn}
-use Rattle.closed.specs.Keeping.{keyIn, Ready}
 use Rattle.closed.proofs.FileLaws.{held, held-key, start-bytes}
 use Rattle.closed.proofs.AnswerLaws.{closed-is}
 use borrow.Author.Needs.{needs}

@@ -8,7 +8,6 @@ use Rattle.closed.specs.Keeping.{Inside}
 use Rattle.closed.proofs.InsideLaws.{BandsTo, bands-start, bands-next, bands-end}
 use Rattle.closed.proofs.RowLaws.{ready-cells}
 use native.Mathlib.Omega.{arith}
-use borrow.Author.Needs.{needs}
 use Rattle.closed.proofs.passes.all_inside.Statement.{statement}
 use Rattle.closed.proofs.passes.all_inside.Tie as tie
 

@@ -2,7 +2,6 @@
 use mathlib.Core.Path.{refl}
 use borrow.Author.Tests.{eq-eqb, ne-eqb}
 use Rattle.tasks.proofs.Picks.{pick-yes, pick-no}
-use borrow.Author.Needs.{needs}
 use Rattle.closed.proofs.passes.is_due.Statement.{statement}
 use Rattle.closed.proofs.passes.is_due.Tie as tie
 

@@ -1,5 +1,4 @@
 -- The number of each answer. Assumes nothing.
-use mathlib.Core.Path.{ap}
 use Rattle.closed.specs.declared.check.ClosedAnswer.the-variants as ClosedAnswer
 use Rattle.ronchhek.proofs.FileLaws.{file-judged}
 use borrow.Author.Needs.{needs}

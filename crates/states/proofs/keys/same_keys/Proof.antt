@@ -1,7 +1,6 @@
 -- By definition. Assumes nothing.
 use mathlib.Core.Path.{refl}
 use Rattle.states.specs.Keys.{sameKeys}
-use borrow.Author.Needs.{needs}
 use Rattle.states.proofs.keys.same_keys.Statement.{statement}
 use Rattle.states.proofs.keys.same_keys.Tie as tie
 
