@@ -11,7 +11,7 @@ use mir.Val.{Fits}
 use Rattle.tasks.specs.State.{start}
 use Rattle.tasks.specs.Words.{stateOf}
 use Rattle.tasks.specs.declared.state.State.{State}
-use Rattle.tasks.proofs.Fill.{eight-at}
+use Rattle.lists.proofs.Fill.{eight-at}
 use Rattle.levels.specs.Verdict.{Holds}
 use Rattle.states.specs.Keys.{keyOf, sameKeys, wordsOf}
 use Rattle.states.specs.declared.keys.Key.{Key}

@@ -7,8 +7,8 @@ use native.Mathlib.Omega.{arith}
 use native.Mathlib.Nat.{mod-one, mod-lt, min-le-right}
 use borrow.Author.Tests.{eq-eqb, ne-eqb}
 use lib.Dec.{eqb}
-use Rattle.tasks.specs.Lists.{pick}
-use Rattle.tasks.proofs.Bools.{by-bool}
+use Rattle.lists.specs.Lists.{pick}
+use Rattle.lists.proofs.Bools.{by-bool}
 use Rattle.states.specs.declared.keys.Key.{Key}
 use Rattle.closed.specs.Keeping.{classOf, landing, lands}
 use Rattle.closed.specs.declared.passes.Split.{Split}

@@ -12,7 +12,7 @@ use lib.Dec.{eqb, leb, ltb}
 use lib.ListN.{length, getD}
 use mir.Syntax.{w8}
 use mir.Val.{Fits}
-use Rattle.tasks.specs.Lists.{pick}
+use Rattle.lists.specs.Lists.{pick}
 use Rattle.tasks.specs.Table.{tableFault}
 use Rattle.tasks.specs.State.{improper}
 use Rattle.tasks.specs.Tick.{illegal, after, missed}
@@ -23,7 +23,7 @@ use Rattle.tasks.specs.declared.state.State.{State}
 use Rattle.tasks.specs.declared.table.Table.{Table}
 use Rattle.tasks.specs.declared.ticker.Prepared.{Prepared}
 use Rattle.tasks.specs.declared.ticker.Ticker.{Ticker}
-use Rattle.tasks.proofs.Bools.{by-bool, clash, both, nor-left, nor-right}
+use Rattle.lists.proofs.Bools.{by-bool, clash, both, nor-left, nor-right}
 use Rattle.tasks.proofs.More.{full-legal}
 use Rattle.tasks.proofs.Free.{free-small, free-full}
 use Rattle.levels.specs.Verdict.{Holds}

@@ -9,7 +9,7 @@ use borrow.Author.Tests.{ltb-false, lt-ltb, le-ltb}
 use lib.Dec.{eqb, ltb}
 use lib.ListN.{getD}
 use lib.Signed.{ltZ}
-use Rattle.tasks.specs.Lists.{count}
+use Rattle.lists.specs.Lists.{count}
 use Rattle.tasks.specs.Table.{tableFault}
 use Rattle.tasks.specs.State.{notPreempted, started, keeps, late, improper}
 use Rattle.tasks.specs.Tick.{missed}
@@ -17,8 +17,8 @@ use Rattle.tasks.specs.Tight.{tightJob, tightAt, tight}
 use Rattle.tasks.specs.Words.{stateOf}
 use Rattle.tasks.specs.declared.state.State.{State}
 use Rattle.tasks.specs.declared.table.Table.{Table}
-use Rattle.tasks.proofs.Bools.{by-bool, clash, both, or-left, or-right, nor-left, nor-right}
-use Rattle.tasks.proofs.Counts.{count-same, count-zero, any-false, none-any}
+use Rattle.lists.proofs.Bools.{by-bool, clash, both, or-left, or-right, nor-left, nor-right}
+use Rattle.lists.proofs.Counts.{count-same, count-zero, any-false, none-any}
 use Rattle.tasks.proofs.InWords.{work-word, gap-word}
 use Rattle.tasks.proofs.Late.{late-yes}
 use Rattle.tasks.proofs.Proper.{Fine, proper-task, proper-kept, is-proper}

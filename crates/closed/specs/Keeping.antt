@@ -8,7 +8,7 @@ use lib.Dec.{eqb, ltb}
 use lib.ListN.{length, getD}
 use mir.Syntax.{w8}
 use mir.Val.{Fits}
-use Rattle.tasks.specs.Lists.{pick, count}
+use Rattle.lists.specs.Lists.{pick, count}
 use Rattle.tasks.specs.Table.{tableFault}
 use Rattle.tasks.specs.State.{notPreempted, started, improper}
 use Rattle.tasks.specs.Tick.{illegal, after}

@@ -8,7 +8,7 @@ ghost use mathlib.Core.Bool.{_&&_};
 ghost use lib.Bits.{bitAnd};
 ghost use lib.Dec.{eqb, ltb, leb};
 ghost use lib.ListN.{length, getD};
-ghost use Rattle.tasks.specs.Lists.{pick};
+ghost use Rattle.lists.specs.Lists.{pick};
 ghost use Rattle.tasks.specs.Ticker.{tickedBy, tickerOf};
 ghost use Rattle.tasks.specs.Words.{stateOf};
 ghost use Rattle.closed.specs.Keeping.{classOf, landing, Due, RowOf, Between, Every, InsideIs, Given, Ready, AfterWaits, RowWaits};

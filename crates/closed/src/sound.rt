@@ -1,6 +1,6 @@
 // Whether a state is proper and no mask misses from it.
 ghost use mathlib.Core.Path.{_≡_};
-ghost use Rattle.tasks.specs.Lists.{count};
+ghost use Rattle.lists.specs.Lists.{count};
 ghost use Rattle.tasks.specs.State.{started};
 ghost use Rattle.tasks.specs.Table.{tableFault};
 ghost use Rattle.tasks.specs.Ticker.{tickerOf};

@@ -13,7 +13,7 @@ use borrow.Author.Tests.{eq-eqb, ne-eqb, lt-ltb, le-ltb}
 use Rattle.tasks.specs.Answers.{writingAnswer}
 use Rattle.tasks.specs.declared.state.State.{State}
 use Rattle.tasks.specs.declared.writer.Writing.the-variants as Writing
-use Rattle.tasks.proofs.Fill.{eight-at, eight-same}
+use Rattle.lists.proofs.Fill.{eight-at, eight-same}
 use Rattle.tasks.proofs.Stores.{Storing, storing-start, storing-step, storing-end}
 use Rattle.states.specs.Bytes.{twos, stateFrom, stateBytes}
 use Rattle.search.specs.Slot.{stateAt}

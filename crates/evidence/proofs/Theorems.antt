@@ -22,7 +22,7 @@ use Rattle.tasks.specs.declared.sheet.Reading.the-variants as Reading
 use Rattle.tasks.specs.declared.tick.TickAnswer.the-variants as Tick
 use Rattle.tasks.specs.declared.writer.Writing.{Writing}
 use Rattle.tasks.specs.declared.writer.Writing.the-variants as Writing
-use Rattle.tasks.proofs.Bools.{by-bool}
+use Rattle.lists.proofs.Bools.{by-bool}
 use Rattle.tasks.proofs.Answers.{writing-is}
 use Rattle.tasks.proofs.Answered.{ticked-legal}
 use Rattle.tasks.proofs.Listed.{sheet-refusal, read-accepted}

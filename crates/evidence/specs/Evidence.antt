@@ -4,7 +4,7 @@ use mathlib.Core.List.{List, [], _++_}
 use Prim.Native.Nat.{ℕ, zero, suc, _*_, _<_}
 use lib.Dec.{eqb, ltb}
 use lib.ListN.{length, drop}
-use Rattle.tasks.specs.Lists.{pick}
+use Rattle.lists.specs.Lists.{pick}
 use Rattle.tasks.specs.declared.writer.Writing.{Writing}
 use Rattle.tasks.specs.declared.writer.Writing.the-variants as Writing
 use Rattle.levels.specs.Verdict.{Holds}

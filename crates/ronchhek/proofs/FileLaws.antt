@@ -9,7 +9,7 @@ use lib.ListN.{getD}
 use borrow.Author.Tests.{ltb-false}
 use Rattle.tasks.specs.Answers.{writingAnswer}
 use Rattle.tasks.specs.declared.writer.Writing.the-variants as Writing
-use Rattle.tasks.proofs.Bools.{by-bool}
+use Rattle.lists.proofs.Bools.{by-bool}
 use Rattle.tasks.proofs.Answers.{writing-is}
 use Rattle.search.specs.Claim.{slotsIn}
 use Rattle.search.proofs.ClaimLaws.{slots-few}

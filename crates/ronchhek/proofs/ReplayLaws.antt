@@ -11,7 +11,7 @@ use Rattle.tasks.specs.declared.table.Table.{Table}
 use Rattle.tasks.specs.declared.play.Outcome.{Outcome}
 use Rattle.tasks.specs.declared.play.ReplayAnswer.the-variants.{Played, Refused}
 use Rattle.tasks.specs.declared.writer.Writing.the-variants as Writing
-use Rattle.tasks.proofs.Bools.{by-bool}
+use Rattle.lists.proofs.Bools.{by-bool}
 use Rattle.search.specs.Slot.{stateWriting, stateSpace}
 use Rattle.ronchhek.specs.Replays.{refusedAt, outcomeNumber, tableNumber, tableSpace}
 

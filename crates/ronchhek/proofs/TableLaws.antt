@@ -14,7 +14,7 @@ use Rattle.tasks.specs.Sheet.{sheetOf, sheetBytes, writeRefusal, writeAnswer, w
 use Rattle.tasks.specs.declared.table.Table.{Table}
 use Rattle.tasks.specs.declared.sheet.Reading.the-variants as Reading
 use Rattle.tasks.specs.declared.writer.Writing.the-variants as Writing
-use Rattle.tasks.proofs.Bools.{by-bool}
+use Rattle.lists.proofs.Bools.{by-bool}
 use Rattle.tasks.proofs.Answers.{writing-is}
 use Rattle.tasks.proofs.Sheets.{sheet-short}
 use Rattle.ronchhek.specs.Tables.{entries, tableBytes, tableFrom, readNumber, readSpace, bytesRefusal, writeNumber, writeSpace}

@@ -5,7 +5,7 @@ use Prim.Native.Nat.{ℕ, _+_, _*_, _^_}
 use mathlib.Core.List.{List}
 use lib.Dec.{ltb, leb}
 use lib.ListN.{length}
-use Rattle.tasks.specs.Lists.{pick}
+use Rattle.lists.specs.Lists.{pick}
 use Rattle.tasks.specs.Sheet.{sheetOf}
 use Rattle.tasks.specs.Replay.{replayed}
 use Rattle.tasks.specs.declared.table.Table.{Table}

@@ -4,7 +4,7 @@ use Prim.Native.Nat.{ℕ, zero, suc, _+_, _*_, _^_}
 use mathlib.Core.List.{List, [], _∷_, _++_}
 use lib.Dec.{ltb}
 use lib.ListN.{length, getD, drop}
-use Rattle.tasks.specs.Lists.{eight, pick}
+use Rattle.lists.specs.Lists.{eight, pick}
 use Rattle.tasks.specs.Sheet.{sheetOf, sheetBytes, writeRefusal, writeOut}
 use Rattle.tasks.specs.declared.table.Table.{Table}
 use Rattle.tasks.specs.declared.sheet.Reading.{Reading}

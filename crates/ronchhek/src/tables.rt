@@ -3,7 +3,7 @@ ghost use mathlib.Core.Path.{_≡_};
 ghost use Prim.Native.Nat.{_+_, _*_, _≤_};
 ghost use lib.ListN.{length, getD};
 ghost use lib.Seq.{sets};
-ghost use Rattle.tasks.specs.Lists.{eight};
+ghost use Rattle.lists.specs.Lists.{eight};
 ghost use Rattle.ronchhek.specs.Tables.{tableBytes, tableFrom, readNumber, readSpace, writeNumber, writeSpace};
 use tasks::Reading;
 use tasks::Table;

@@ -7,7 +7,7 @@ use native.Mathlib.Nat.{min-le-left, min-le-right}
 use lib.ListN.{length, getD, take, replicate, length-replicate}
 use lib.Dec.{eqb}
 use borrow.Author.Tests.{eq-eqb, ne-eqb, lt-ltb, le-ltb}
-use Rattle.tasks.specs.Lists.{pick}
+use Rattle.lists.specs.Lists.{pick}
 use Rattle.tasks.specs.Table.{tableFault}
 use Rattle.tasks.specs.Sheet.{sheetOf, afterReading}
 use Rattle.tasks.specs.declared.table.Table.{Table}

@@ -11,14 +11,14 @@ use native.Mathlib.Decide.{ℕ-discrete, decLt}
 use lib.Dec.{eqb, ltb, leb}
 use lib.Pow.{pow-mono}
 use borrow.Author.Tests.{eqb-true, eq-eqb, ltb-true, leb-true}
-use Rattle.tasks.specs.Lists.{any}
+use Rattle.lists.specs.Lists.{any}
 use Rattle.tasks.specs.Table.{tableFault}
 use Rattle.tasks.specs.State.{improper}
 use Rattle.tasks.specs.Tick.{bit, illegal, refusal}
 use Rattle.tasks.specs.declared.state.State.{State}
 use Rattle.tasks.specs.declared.table.Table.{Table}
-use Rattle.tasks.proofs.Bools.{by-bool, clash, and-left, and-right, both, or-cases}
-use Rattle.tasks.proofs.Counts.{any-some}
+use Rattle.lists.proofs.Bools.{by-bool, clash, and-left, and-right, both, or-cases}
+use Rattle.lists.proofs.Counts.{any-some}
 use Rattle.tasks.proofs.Legal.{beyond-illegal}
 use Rattle.levels.specs.Verdict.{Answer, Verdict}
 use Rattle.levels.specs.Verdict.Tick.{Refused}

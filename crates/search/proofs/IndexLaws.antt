@@ -4,7 +4,7 @@ use mathlib.Core.Path.{_≡_, sym, ap, _∙_}
 use mathlib.Core.Bool.{true}
 use mathlib.Core.List.{List}
 use lib.Bits.{bitAnd, bitOr}
-use Rattle.tasks.proofs.Bools.{clash}
+use Rattle.lists.proofs.Bools.{clash}
 use Rattle.tasks.specs.Tick.{bit}
 use Rattle.search.proofs.TagLaws.{tag-stays, tag-set, tag-off}
 use native.Mathlib.Omega.{arith}

@@ -8,10 +8,10 @@ use native.Mathlib.Numerals.{add-one}
 use lib.ListN.{length, getD, take, drop, set, length-append, length-drop, drop-of-length-le, List·getD-append}
 use lib.Seq.{sets, sets-eq, take-all, drop-drop, length-take-le, getD-take, getD-append-add, drop-at}
 use borrow.Author.Tests.{lt-ltb, le-ltb}
-use Rattle.tasks.specs.Lists.{eight}
+use Rattle.lists.specs.Lists.{eight}
 use Rattle.tasks.specs.declared.state.State.{State}
 use Rattle.tasks.specs.declared.writer.Writing.the-variants as Writing
-use Rattle.tasks.proofs.Fill.{eight-at, filled-end}
+use Rattle.lists.proofs.Fill.{eight-at, filled-end}
 use Rattle.tasks.proofs.Stores.{storing-start, storing-step}
 use Rattle.states.specs.Bytes.{fourAt, twos, stateBytes}
 use Rattle.search.specs.Slot.{stateAt, parentAt, maskAt, linkAt, stateWriting, stateSpace, restBytes, linkedBytes}

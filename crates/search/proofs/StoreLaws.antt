@@ -18,7 +18,7 @@ use Rattle.tasks.specs.declared.state.State.{State}
 use Rattle.tasks.specs.declared.table.Table.{Table}
 use Rattle.tasks.specs.declared.ticker.Prepared.{Prepared}
 use Rattle.tasks.specs.declared.ticker.Ticker.{Ticker}
-use Rattle.tasks.proofs.Bools.{by-bool}
+use Rattle.lists.proofs.Bools.{by-bool}
 use Rattle.tasks.proofs.Free.{free-small}
 use Rattle.levels.specs.Verdict.Tick.{Next, Missed, Refused}
 use Rattle.levels.specs.Levels.{Before}

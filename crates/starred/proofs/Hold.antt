@@ -3,7 +3,7 @@
 use Prim.Native.Nat.{ℕ, _≤_}
 use mathlib.Core.Path.{_≡_, refl}
 use mathlib.Core.List.{List, map}
-use Rattle.tasks.specs.Lists.{count, any}
+use Rattle.lists.specs.Lists.{count, any}
 use Rattle.tasks.specs.Table.{breaks, faultAt, tableFault}
 use Rattle.tasks.specs.Number.{numberIn, numberAt}
 use Rattle.tasks.specs.State.{started, keeps, late, improperAt, improper}

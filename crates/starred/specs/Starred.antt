@@ -2,7 +2,7 @@
 use Prim.Native.Nat.{ℕ}
 use mathlib.Core.List.{List, [], _∷_, map}
 use lib.ListN.{length, take, getD}
-use Rattle.tasks.specs.Lists.{eight}
+use Rattle.lists.specs.Lists.{eight}
 use Rattle.tasks.specs.Number.{numberAt}
 use Rattle.tasks.specs.Replay.{replayed}
 use Rattle.tasks.specs.Answers.{numberAnswer, replayAnswer}

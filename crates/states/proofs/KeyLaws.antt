@@ -12,8 +12,8 @@ use mir.Syntax.{w8}
 use mir.Val.{Fits}
 use borrow.Author.Tests.{eqb-true, eq-eqb}
 use Rattle.tasks.specs.declared.state.State.{State}
-use Rattle.tasks.proofs.Bools.{and-left, and-right, clash}
-use Rattle.tasks.proofs.Fill.{eight-at}
+use Rattle.lists.proofs.Bools.{and-left, and-right, clash}
+use Rattle.lists.proofs.Fill.{eight-at}
 use Rattle.states.specs.declared.keys.Key.{Key}
 use Rattle.states.specs.Bytes.{fourAt}
 use Rattle.states.specs.Bytes.{stateFrom}

@@ -8,12 +8,12 @@ use native.Mathlib.Omega.{arith}
 use native.Mathlib.Decide.{ℕ-discrete, decLt}
 use lib.Dec.{eqb}
 use borrow.Author.Tests.{eqb-true, eq-eqb, ne-eqb}
-use Rattle.tasks.specs.Lists.{pick}
+use Rattle.lists.specs.Lists.{pick}
 use Rattle.tasks.specs.Tick.{bit, illegal}
 use Rattle.tasks.specs.Masks.{freeMask}
 use Rattle.tasks.specs.declared.state.State.{State}
 use Rattle.tasks.specs.declared.table.Table.{Table}
-use Rattle.tasks.proofs.Bools.{clash, and-left, and-right, both}
+use Rattle.lists.proofs.Bools.{clash, and-left, and-right, both}
 use Rattle.tasks.proofs.Legal.{legal-bit, bits-legal}
 use Rattle.tasks.proofs.Free.{free-bit, may, may-be}
 use Rattle.states.specs.Masks.{nextMask, follows}

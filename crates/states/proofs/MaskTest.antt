@@ -3,7 +3,7 @@ use Prim.Native.Nat.{ℕ, zero, suc}
 use mathlib.Core.Path.{_≡_, refl}
 use mathlib.Core.Bool.{Bool, true, false, not, _&&_, _||_}
 use lib.Dec.{eqb}
-use Rattle.tasks.specs.Lists.{pick}
+use Rattle.lists.specs.Lists.{pick}
 use Rattle.tasks.specs.Tick.{bit}
 use Rattle.states.specs.Masks.{nextMask, follows}
 

@@ -14,7 +14,7 @@ use Rattle.tasks.specs.Ticker.{tickerOf, freeBy}
 use Rattle.tasks.specs.declared.state.State.{State}
 use Rattle.tasks.specs.declared.table.Table.{Table}
 use Rattle.tasks.specs.declared.ticker.Ticker.{Ticker}
-use Rattle.tasks.proofs.Bools.{by-bool, clash}
+use Rattle.lists.proofs.Bools.{by-bool, clash}
 use Rattle.tasks.proofs.More.{full-legal, full-miss}
 use Rattle.tasks.proofs.Free.{ticks, frees, free-full}
 use Rattle.tasks.proofs.InWords.{TableBytes, WordList}

@@ -25,7 +25,7 @@ use Rattle.tasks.specs.declared.play.Outcome.the-variants as Outcome
 use Rattle.tasks.specs.declared.play.ReplayAnswer.{ReplayAnswer}
 use Rattle.tasks.specs.declared.play.ReplayAnswer.the-variants as ReplayAnswer
 use Rattle.tasks.specs.declared.play.Replayed.{Replayed}
-use Rattle.tasks.proofs.Bools.{by-bool}
+use Rattle.lists.proofs.Bools.{by-bool}
 use Rattle.tasks.proofs.Proper.{start-proper}
 use Rattle.tasks.proofs.Answered.{ticked-refused, ticked-missed, ticked-next, refusal-none, refusal-passed, ticked-illegal, ticked-proper}
 use Rattle.tasks.proofs.Played.{replayed-played}

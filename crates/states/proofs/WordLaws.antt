@@ -7,9 +7,9 @@ use native.Mathlib.Nat.{add-assoc, add-zero}
 use lib.ListN.{getD}
 use mir.Syntax.{w8, w16}
 use mir.Val.{Fits}
-use Rattle.tasks.specs.Lists.{eight}
+use Rattle.lists.specs.Lists.{eight}
 use Rattle.tasks.specs.Words.{stateOf}
-use Rattle.tasks.proofs.Fill.{eight-at, eight-same}
+use Rattle.lists.proofs.Fill.{eight-at, eight-same}
 use Rattle.tasks.proofs.InWords.{work-word, gap-word}
 use Rattle.states.specs.Keys.{wordOf, wordsOf, keyFrom}
 use Rattle.states.specs.Bytes.{four, fourAt, stateFrom}

@@ -2,7 +2,7 @@
 use mathlib.Core.List.{List, [], _∷_}
 use Prim.Native.Nat.{ℕ, zero, suc, _+_, _*_}
 use lib.ListN.{getD}
-use Rattle.tasks.specs.Lists.{eight}
+use Rattle.lists.specs.Lists.{eight}
 use Rattle.tasks.specs.declared.state.State.{State}
 
 -- the number of four bytes, low byte first

@@ -2,7 +2,7 @@
 use Prim.Native.Nat.{ℕ, _+_, _-_, _%_}
 use lib.Dec.{eqb}
 use lib.Bits.{bitAnd}
-use Rattle.tasks.specs.Lists.{pick}
+use Rattle.lists.specs.Lists.{pick}
 
 -- the submask of free after m, and 0 after the last
 unfoldable pub nextMask : ℕ → ℕ → ℕ

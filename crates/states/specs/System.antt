@@ -1,7 +1,7 @@
 -- A task table as a transition system (document 01, "One tick" and "Replay"): its states, the release masks, the start state and one tick.
 use Prim.Native.Nat.{ℕ}
 use lib.Dec.{ltb}
-use Rattle.tasks.specs.Lists.{pick}
+use Rattle.lists.specs.Lists.{pick}
 use Rattle.tasks.specs.State.{start}
 use Rattle.tasks.specs.Tick.{ticked}
 use Rattle.tasks.specs.declared.state.State.{State}

@@ -4,12 +4,12 @@ use mathlib.Core.Path.{_≡_, ap, _∙_}
 use mathlib.Core.Bool.{true, false}
 use native.Mathlib.Omega.{arith}
 use lib.ListN.{getD}
-use Rattle.tasks.specs.Lists.{pick}
+use Rattle.lists.specs.Lists.{pick}
 use Rattle.tasks.specs.Tick.{bit, releasedAt, released, runs, chosen, ranAt, fallen, ran, after}
 use Rattle.tasks.specs.declared.state.State.{State}
 use Rattle.tasks.specs.declared.table.Table.{Table}
-use Rattle.tasks.proofs.Bools.{by-bool}
-use Rattle.tasks.proofs.Fill.{eight-at}
+use Rattle.lists.proofs.Bools.{by-bool}
+use Rattle.lists.proofs.Fill.{eight-at}
 
 module _ (t : Table) (s : State) (mask i : ℕ) (h : i < 8) where
   -- ---- after the release

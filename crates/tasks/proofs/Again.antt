@@ -15,7 +15,7 @@ use Rattle.tasks.specs.declared.table.Table.{Table}
 use Rattle.tasks.specs.declared.sheet.Reading.{Reading}
 use Rattle.tasks.specs.declared.sheet.Reading.the-variants as Reading
 use Rattle.tasks.specs.declared.writer.Writing.the-variants.{Written, Refused}
-use Rattle.tasks.proofs.Bools.{by-bool}
+use Rattle.lists.proofs.Bools.{by-bool}
 use Rattle.tasks.proofs.Answers.{writing-is}
 use Rattle.tasks.proofs.Sheets.{write-fault, write-short, write-done, write-out, sheet-short}
 use Rattle.tasks.proofs.RoundTrip.{Eight, read-write, read-valid, write-read}

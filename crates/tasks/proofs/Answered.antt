@@ -5,15 +5,15 @@ use mathlib.Core.Bool.{true, false}
 use native.Mathlib.Omega.{arith}
 use lib.Dec.{ltb}
 use borrow.Author.Tests.{ltb-true, ltb-false, lt-ltb, le-ltb}
-use Rattle.tasks.specs.Lists.{pick}
+use Rattle.lists.specs.Lists.{pick}
 use Rattle.tasks.specs.Table.{tableFault}
 use Rattle.tasks.specs.State.{improper}
 use Rattle.tasks.specs.Tick.{illegal, after, missed, refusal, answered, ticked}
 use Rattle.tasks.specs.declared.state.State.{State}
 use Rattle.tasks.specs.declared.table.Table.{Table}
 use Rattle.tasks.specs.declared.tick.TickAnswer.the-variants.{Next, Missed, Refused}
-use Rattle.tasks.proofs.Bools.{by-bool}
-use Rattle.tasks.proofs.Picks.{pick-yes, pick-no}
+use Rattle.lists.proofs.Bools.{by-bool}
+use Rattle.lists.proofs.Picks.{pick-yes, pick-no}
 use Rattle.tasks.proofs.Tables.{pick-zero}
 use Rattle.tasks.proofs.Proper.{proper-after}
 

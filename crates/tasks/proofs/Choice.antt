@@ -6,13 +6,13 @@ use mathlib.Core.Logic.{⊎-elim}
 use native.Mathlib.Omega.{arith}
 use lib.Dec.{ltb}
 use borrow.Author.Tests.{ltb-true}
-use Rattle.tasks.specs.Lists.{count}
+use Rattle.lists.specs.Lists.{count}
 use Rattle.tasks.specs.State.{ready, keeps}
 use Rattle.tasks.specs.Tick.{key, before, ahead, runs}
 use Rattle.tasks.specs.declared.state.State.{State}
 use Rattle.tasks.specs.declared.table.Table.{Table}
-use Rattle.tasks.proofs.Bools.{by-bool, clash, and-left, and-right, both, or-left, or-right, or-cases, not-yes, not-no}
-use Rattle.tasks.proofs.Counts.{count-mono, count-but-one}
+use Rattle.lists.proofs.Bools.{by-bool, clash, and-left, and-right, both, or-left, or-right, or-cases, not-yes, not-no}
+use Rattle.lists.proofs.Counts.{count-mono, count-but-one}
 use Rattle.tasks.proofs.Order.{Order, by-number, by-key, Last, last}
 
 module _ (t : Table) (s : State) where

@@ -10,7 +10,7 @@ use Rattle.tasks.specs.Number.{numberAt}
 use Rattle.tasks.specs.Sheet.{ruled, fieldAt}
 use Rattle.tasks.specs.declared.number.Number.{Number}
 use Rattle.tasks.specs.declared.number.Number.the-variants.{Value, Refused}
-use Rattle.tasks.proofs.Bools.{by-bool, nor-left, nor-right}
+use Rattle.lists.proofs.Bools.{by-bool, nor-left, nor-right}
 use Rattle.tasks.proofs.Groups.{no-value}
 
 pub record Field (s : List ℕ) (at low high v next : ℕ) : Type 0 where

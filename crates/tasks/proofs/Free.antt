@@ -9,7 +9,7 @@ use native.Mathlib.Decide.{ℕ-discrete}
 use lib.Dec.{eqb, ltb}
 use lib.ListN.{getD}
 use borrow.Author.Tests.{eqb-true, eq-eqb, ne-eqb, ltb-true, lt-ltb, le-ltb}
-use Rattle.tasks.specs.Lists.{pick, byteOf}
+use Rattle.lists.specs.Lists.{pick, byteOf}
 use Rattle.tasks.specs.Tick.{bit, after}
 use Rattle.tasks.specs.Masks.{releasable, freeMask}
 use Rattle.tasks.specs.Words.{stateOf}
@@ -18,8 +18,8 @@ use Rattle.tasks.specs.declared.state.State.{State}
 use Rattle.tasks.specs.declared.table.Table.{Table}
 use Rattle.tasks.specs.declared.ticker.Prepared.{Prepared}
 use Rattle.tasks.specs.declared.ticker.Ticker.{Ticker}
-use Rattle.tasks.proofs.Bools.{and-left, and-right, both}
-use Rattle.tasks.proofs.Fill.{eight-at}
+use Rattle.lists.proofs.Bools.{and-left, and-right, both}
+use Rattle.lists.proofs.Fill.{eight-at}
 use Rattle.tasks.proofs.InWords.{gap-word}
 use Rattle.tasks.proofs.More.{Full}
 use Rattle.tasks.proofs.InWords.{TableBytes, WordList}

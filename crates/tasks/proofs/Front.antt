@@ -16,7 +16,7 @@ use Rattle.tasks.specs.declared.sheet.Sheet.{Sheet}
 use Rattle.tasks.specs.declared.sheet.Task.{Task}
 use Rattle.tasks.specs.declared.sheet.TaskRead.{TaskRead}
 use Rattle.tasks.specs.declared.sheet.TaskRead.the-variants as TaskRead
-use Rattle.tasks.proofs.Bools.{by-bool}
+use Rattle.lists.proofs.Bools.{by-bool}
 use Rattle.tasks.proofs.Groups.{no-value}
 use Rattle.tasks.proofs.Fields.{field-read}
 use Rattle.tasks.proofs.Sheets.{sheet-short}

@@ -15,7 +15,7 @@ use Rattle.tasks.specs.Number.{value, groupsIn, groups, Canonical, bytes
 use Rattle.tasks.specs.Number.Canonical.{alone, before}
 use Rattle.tasks.specs.declared.number.Number.{Number}
 use Rattle.tasks.specs.declared.number.Number.the-variants.{Value, Refused}
-use Rattle.tasks.proofs.Bools.{by-bool}
+use Rattle.lists.proofs.Bools.{by-bool}
 
 -- ---- the groups of a number
 

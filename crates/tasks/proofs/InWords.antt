@@ -7,12 +7,12 @@ use lib.ListN.{length, getD}
 use lib.Seq.{ext-getD}
 use mir.Syntax.{w8, w16}
 use mir.Val.{Fits}
-use Rattle.tasks.specs.Lists.{eight}
+use Rattle.lists.specs.Lists.{eight}
 use Rattle.tasks.specs.State.{lateJob, late}
 use Rattle.tasks.specs.Words.{wordsOf, stateOf}
 use Rattle.tasks.specs.declared.state.State.{State}
 use Rattle.tasks.specs.declared.table.Table.{Table}
-use Rattle.tasks.proofs.Fill.{eight-at}
+use Rattle.lists.proofs.Fill.{eight-at}
 
 -- the table's numbers are bytes
 pub record TableBytes (t : Table) : Type 0 where

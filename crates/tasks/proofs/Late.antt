@@ -12,7 +12,7 @@ use Rattle.tasks.specs.State.{slack, ready, late, improper}
 use Rattle.tasks.specs.Tick.{bit, released, runs, after}
 use Rattle.tasks.specs.declared.state.State.{State}
 use Rattle.tasks.specs.declared.table.Table.{Table}
-use Rattle.tasks.proofs.Bools.{by-bool, clash, and-left, and-right, both}
+use Rattle.lists.proofs.Bools.{by-bool, clash, and-left, and-right, both}
 use Rattle.tasks.proofs.Signed.{sub-lt, slack-sub, slack-late}
 use Rattle.tasks.proofs.Tables.{ordered}
 use Rattle.tasks.proofs.After.{work-on, work-off, gap-on, gap-off, work-ran, work-waited, gap-after}

@@ -6,12 +6,12 @@ use native.Mathlib.Omega.{arith}
 use lib.Dec.{ltb, leb}
 use lib.ListN.{getD}
 use borrow.Author.Tests.{ltb-false, lt-ltb, le-ltb, leb-false, le-leb, lt-leb}
-use Rattle.tasks.specs.Lists.{any}
+use Rattle.lists.specs.Lists.{any}
 use Rattle.tasks.specs.Tick.{bit, illegalAt, illegal}
 use Rattle.tasks.specs.declared.state.State.{State}
 use Rattle.tasks.specs.declared.table.Table.{Table}
-use Rattle.tasks.proofs.Bools.{by-bool, both, or-left, or-right, nor-left, nor-right}
-use Rattle.tasks.proofs.Counts.{any-false, none-any, some-any}
+use Rattle.lists.proofs.Bools.{by-bool, both, or-left, or-right, nor-left, nor-right}
+use Rattle.lists.proofs.Counts.{any-false, none-any, some-any}
 
 module _ (t : Table) (s : State) where
   -- LAW: the empty mask is always legal

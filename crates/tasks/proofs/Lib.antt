@@ -1,10 +1,5 @@
 -- Laws that several proofs cite.
 -- Those that speak of the model for other layers are marked LAW.
-pub mod Bools
-pub mod Picks
-pub mod Turns
-pub mod Fill
-pub mod Counts
 pub mod Stores
 pub mod Answers
 pub mod Groups
@@ -25,6 +20,7 @@ pub mod Bits
 pub mod InWords
 pub mod Ticking
 pub mod Proper
+pub mod Given
 pub mod Late
 pub mod More
 pub mod Free

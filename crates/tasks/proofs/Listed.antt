@@ -6,7 +6,7 @@ use mathlib.Core.List.{List}
 use native.Mathlib.Omega.{arith}
 use lib.Dec.{ltb}
 use lib.ListN.{length, getD}
-use Rattle.tasks.specs.Lists.{pick}
+use Rattle.lists.specs.Lists.{pick}
 use Rattle.tasks.specs.Table.{breaks}
 use Rattle.tasks.specs.Number.{above, numberIn, numberAt}
 use Rattle.tasks.specs.Sheet.{ruled, fieldAt, andThen, taskOf, taskThen, taskAt, withTask, afterTask, tasksFrom, fromTasks, fromPolicy, sheetOf, emptyTable, acceptedAs}

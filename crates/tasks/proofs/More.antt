@@ -7,14 +7,14 @@ use native.Mathlib.Omega.{arith}
 use lib.Dec.{eqb, ltb}
 use lib.ListN.{getD}
 use borrow.Author.Tests.{ltb-true, ltb-false, lt-ltb, le-ltb, eqb-true, eq-eqb}
-use Rattle.tasks.specs.Lists.{count}
+use Rattle.lists.specs.Lists.{count}
 use Rattle.tasks.specs.Table.{tableFault}
 use Rattle.tasks.specs.State.{ready, started, keeps, late, improper}
 use Rattle.tasks.specs.Tick.{bit, illegal, released, key, before, ahead, runs, after, missed}
 use Rattle.tasks.specs.declared.state.State.{State}
 use Rattle.tasks.specs.declared.table.Table.{Table}
-use Rattle.tasks.proofs.Bools.{by-bool, clash, and-left, and-right, both, or-left, or-right, or-cases}
-use Rattle.tasks.proofs.Counts.{count-mono, some-any, any-some}
+use Rattle.lists.proofs.Bools.{by-bool, clash, and-left, and-right, both, or-left, or-right, or-cases}
+use Rattle.lists.proofs.Counts.{count-mono, some-any, any-some}
 use Rattle.tasks.proofs.Tables.{ordered}
 use Rattle.tasks.proofs.Legal.{legal-bit, bits-legal}
 use Rattle.tasks.proofs.After.{work-on, work-off, gap-on, gap-off, work-waited, gap-after}

@@ -15,8 +15,8 @@ use Rattle.tasks.specs.Tight.{tightJob, tightAt, tight}
 use Rattle.tasks.specs.Words.{stateOf}
 use Rattle.tasks.specs.declared.state.State.{State}
 use Rattle.tasks.specs.declared.table.Table.{Table}
-use Rattle.tasks.proofs.Bools.{by-bool, both, or-left, or-right}
-use Rattle.tasks.proofs.Counts.{some-any, any-some}
+use Rattle.lists.proofs.Bools.{by-bool, both, or-left, or-right}
+use Rattle.lists.proofs.Counts.{some-any, any-some}
 use Rattle.tasks.proofs.Signed.{slack-sub, ltZ-sub, sub-ge}
 use Rattle.tasks.proofs.Legal.{legal-bit}
 use Rattle.tasks.proofs.After.{work-on, work-off, gap-on, gap-off}

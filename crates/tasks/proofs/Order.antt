@@ -10,7 +10,7 @@ use lib.IntN.{ℤ, pos, negsuc}
 use lib.Signed.{ltZ}
 use borrow.Author.Tests.{ltb-true, ltb-false, lt-ltb, le-ltb}
 use Rattle.tasks.specs.Tick.{lex}
-use Rattle.tasks.proofs.Bools.{by-bool, clash, and-left, and-right, both, or-left, or-right, or-cases, not-yes, not-no}
+use Rattle.lists.proofs.Bools.{by-bool, clash, and-left, and-right, both, or-left, or-right, or-cases, not-yes, not-no}
 
 -- ---- a strict total order
 

@@ -1,26 +1,26 @@
--- The order of the places is the order of the jobs. Assumes nothing.
+-- The order of the places is the order of the jobs, so a walk in their order makes the choice of a tick. Assumes nothing.
 use Prim.Native.Nat.{ℕ, suc, _+_, _-_, _*_, _≤_, _<_}
-use mathlib.Core.Path.{_≡_, refl, ap, ap₂, _∙_}
+use mathlib.Core.Path.{_≡_, sym, ap, ap₂, _∙_}
 use mathlib.Core.List.{List}
 use mathlib.Core.Bool.{true, false, not, _&&_, _||_}
 use native.Mathlib.Omega.{arith}
 use native.Mathlib.Nat.{mul-le-mul-right}
-use lib.Dec.{ltb, eqb}
+use lib.Dec.{ltb}
 use lib.ListN.{getD}
 use lib.Signed.{ltZ}
-use mir.Syntax.{w8, w16}
-use mir.Val.{Fits, boolByte}
-use borrow.Author.Tests.{lt-ltb, le-ltb, ne-eqb}
-use Rattle.tasks.specs.Lists.{eight, count}
-use Rattle.tasks.specs.State.{ready, keeps}
+use mir.Syntax.{w8}
+use mir.Val.{Fits}
+use borrow.Author.Tests.{ltb-true, ltb-false, lt-ltb, le-ltb}
+use Rattle.lists.specs.Lists.{eight, count}
+use Rattle.tasks.specs.State.{notPreempted, ready, started, keeps}
 use Rattle.tasks.specs.Tick.{key, before, ahead, runs, chosen}
-use Rattle.tasks.specs.Places.{shiftedAt, place, under, rank, taken}
+use Rattle.cores.specs.Walk.{under, rank, keptCount, taken, Apart}
+use Rattle.tasks.specs.Places.{shiftedAt, place}
 use Rattle.tasks.specs.declared.state.State.{State}
 use Rattle.tasks.specs.declared.table.Table.{Table}
-use Rattle.tasks.proofs.Fill.{eight-at, eight-same}
-use Rattle.tasks.proofs.Turns.{count-turn, count-room}
-use Rattle.tasks.proofs.Bools.{by-bool}
-use Rattle.tasks.proofs.Counts.{count-same}
+use Rattle.lists.proofs.Fill.{eight-at, eight-same}
+use Rattle.lists.proofs.Bools.{by-bool}
+use Rattle.lists.proofs.Counts.{count-same}
 use Rattle.tasks.proofs.Signed.{by-lt, ltb-same, time-left-less}
 
 -- ---- a field put below another
@@ -108,11 +108,11 @@ module _ (t : Table) (s : State) where
     some : (i : ℕ) → i < 8 → ready s i ≡ true → keeps t s i ≡ false → ltb (place t s i) 65535 ≡ true
     some i h r e = rw (place-free i r e) (lt-ltb (shiftedAt t s i * 8 + i) 65535 (omega (arith, shifted-range i (bytes i h) .1)))
 
-    none : (i : ℕ) → i < 8 → ready s i ≡ true → keeps t s i ≡ false → eqb (place t s i) 0 ≡ false
-    none i h r e = rw (place-free i r e) (ne-eqb (shiftedAt t s i * 8 + i) 0 (λ q. omega (arith, shifted-range i (bytes i h) .0)))
+    none : (i : ℕ) → i < 8 → ready s i ≡ true → keeps t s i ≡ false → ltb (place t s i) 1 ≡ false
+    none i h r e = rw (place-free i r e) (le-ltb (shiftedAt t s i * 8 + i) 1 (omega (arith, shifted-range i (bytes i h) .0)))
 
     pub taken-runs : (i : ℕ) → i < 8 → taken (eight (place t s)) (t .m) i ≡ runs t s i
-    unfolding taken runs
+    unfolding taken under runs
     taken-runs i h =
         rw (eight-at 0 (place t s) i h)
         (by-bool (ready s i)
@@ -128,22 +128,42 @@ module _ (t : Table) (s : State) where
     unfolding chosen
     taken-chosen = eight-same (taken (eight (place t s)) (t .m)) (runs t s) taken-runs
 
--- ---- the ranks, one place counted a turn
+    -- ---- what a walk needs of the places
 
-module _ (places : List ℕ) where
-  pub rank-start : eight (λ i. 0) ≡ eight (rank places 0)
-  unfolding rank count
-  rank-start = refl
+    -- a place above 0 and below 65535 is that of a job that waits: its key and below it the task's number
+    waits : (i : ℕ) → i < 8 → 0 < place t s i → place t s i < 65535 → place t s i ≡ shiftedAt t s i * 8 + i
+    waits i h a b =
+        by-bool (ready s i)
+        (λ r. by-bool (keeps t s i) (λ e. absurd (omega (arith, place-kept i r e))) (λ e. place-free i r e))
+        (λ r. absurd (omega (arith, place-none i r)))
 
-  module _ {ranks : List ℕ} (i j : ℕ) (e : ranks ≡ eight (rank places i)) (h : j < 8) where
-    pub rank-read : getD ranks j 0 ≡ rank places i j
-    rank-read = ap (λ l. getD l j 0) e ∙ eight-at 0 (rank places i) j h
+    -- LAW: no two jobs that wait have the same place
+    pub places-apart : Apart (eight (place t s))
+    unfolding under
+    places-apart =
+        record {
+          apart = λ i j h k ready kept same.
+              let at-i = eight-at 0 (place t s) i h in
+              let at-j = eight-at 0 (place t s) j k in
+              let top = ltb-true (getD (eight (place t s)) i 0) 65535 ready in
+              let low = ltb-false (getD (eight (place t s)) i 0) 1 kept in
+              let a : 0 < place t s i = omega arith in
+              let b : place t s i < 65535 = omega arith in
+              let equal : place t s i ≡ place t s j = omega arith in
+              omega (arith, waits i h a b, waits j k (omega arith) (omega arith));
+        }
 
-    pub rank-turn : getD ranks j 0 + boolByte (ltb (getD places i 0) (getD places j 0)) ≡ rank places (i + 1) j
-    unfolding rank under
-    rank-turn = count-turn (under places (getD places j 0)) i rank-read refl
+    kept-place : (i : ℕ) → i < 8 → under (eight (place t s)) 1 i ≡ keeps t s i
+    unfolding under keeps started
+    kept-place i h =
+        rw (eight-at 0 (place t s) i h)
+        (by-bool (ready s i)
+        (λ r. by-bool (keeps t s i)
+        (λ e. rw (place-kept i r e) (sym e))
+        (λ e. none i h r e ∙ sym e))
+        (λ r. rw (place-none i r, r) (by-bool (notPreempted t) (λ b. rw b) (λ b. rw b))))
 
-    pub rank-room : i ≤ 8 → Fits w16 (getD ranks j 0 + boolByte (ltb (getD places i 0) (getD places j 0)))
-    unfolding rank
-    rank-room k =
-        let f = count-room (under places (getD places j 0)) (ltb (getD places i 0) (getD places j 0)) rank-read k in omega arith
+    -- LAW: as many places are 0 as jobs keep their processors
+    pub places-kept : keptCount (eight (place t s)) ≡ count 8 (keeps t s)
+    unfolding keptCount
+    places-kept = count-same (under (eight (place t s)) 1) (keeps t s) 8 kept-place

@@ -22,8 +22,8 @@ use Rattle.tasks.specs.declared.tick.Ticked.{Ticked}
 use Rattle.tasks.specs.declared.play.Outcome.the-variants.{Kept}
 use Rattle.tasks.specs.declared.play.ReplayAnswer.the-variants.{Played, Refused}
 use Rattle.tasks.specs.declared.play.Replayed.{Replayed}
-use Rattle.tasks.proofs.Bools.{by-bool}
-use Rattle.tasks.proofs.Picks.{pick-yes, pick-no}
+use Rattle.lists.proofs.Bools.{by-bool}
+use Rattle.lists.proofs.Picks.{pick-yes, pick-no}
 use Rattle.tasks.proofs.Answers.{replay-told}
 use Rattle.tasks.proofs.Proper.{start-proper}
 use Rattle.tasks.proofs.Answered.{ticked-legal, ticked-illegal, ticked-proper}

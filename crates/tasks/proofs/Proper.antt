@@ -6,14 +6,14 @@ use native.Mathlib.Omega.{arith}
 use lib.Dec.{ltb, leb}
 use lib.ListN.{getD}
 use borrow.Author.Tests.{ltb-true, ltb-false, le-ltb, leb-true, le-leb}
-use Rattle.tasks.specs.Lists.{count, any}
+use Rattle.lists.specs.Lists.{count, any}
 use Rattle.tasks.specs.State.{start, notPreempted, started, keeps, late, improperAt, improper}
 use Rattle.tasks.specs.Tick.{bit, illegal, released, ahead, runs, missed, after}
 use Rattle.tasks.specs.declared.state.State.{State}
 use Rattle.tasks.specs.declared.table.Table.{Table}
-use Rattle.tasks.proofs.Bools.{by-bool, and-left, and-right, both, or-left, nor-left, nor-right}
-use Rattle.tasks.proofs.Counts.{count-mono, count-zero, any-false, none-any}
-use Rattle.tasks.proofs.Fill.{eight-at}
+use Rattle.lists.proofs.Bools.{by-bool, and-left, and-right, both, or-left, nor-left, nor-right}
+use Rattle.lists.proofs.Counts.{count-mono, count-zero, any-false, none-any}
+use Rattle.lists.proofs.Fill.{eight-at}
 use Rattle.tasks.proofs.Choice.{runs-fit}
 use Rattle.tasks.proofs.Legal.{legal-bit}
 use Rattle.tasks.proofs.After.{work-on, work-off, gap-on, gap-off, work-waited, work-falls, gap-after}
@@ -131,11 +131,14 @@ module _ (t : Table) (s : State) (mask : ℕ) where
       both (and-left (ltb 0 R) (ltb R C) (and-right (notPreempted t) (ltb 0 R && ltb R C) k))
       (or-left (ltb (count 8 (ahead t (released t s mask) i)) (t .m)) k))
 
+  -- from a proper state at most m jobs keep their processors after the release
+  pub few-keep : improper t s ≡ false → count 8 (keeps t (released t s mask)) ≤ t .m
+  few-keep proper =
+      omega (arith, proper-kept t s proper, count-mono (keeps t (released t s mask)) (keeps t s) 8 kept-before)
+
   -- LAW: from a proper state at most m tasks run
   pub few-run : improper t s ≡ false → count 8 (runs t (released t s mask)) ≤ t .m
-  few-run proper =
-      runs-fit t (released t s mask)
-      (omega (arith, proper-kept t s proper, count-mono (keeps t (released t s mask)) (keeps t s) 8 kept-before))
+  few-run proper = runs-fit t (released t s mask) (few-keep proper)
 
   fine-after : illegal t s mask ≡ false → (i : ℕ) → i < 8 → Fine t s i → late t (after t s mask) i ≡ false → Fine t (after t s mask) i
   fine-after legal i h f kept =

@@ -9,7 +9,7 @@ use lib.Dec.{ltb}
 use lib.ListN.{length, getD, set, drop, length-append, length-drop, length-set, drop-of-length-le}
 use lib.Seq.{drop-drop, drop-append-seam, getD-set-same, getD-set-other, ext-getD}
 use borrow.Author.Tests.{lt-ltb, le-ltb, ltb-true, ltb-false}
-use Rattle.tasks.specs.Lists.{eight, pick}
+use Rattle.lists.specs.Lists.{eight, pick}
 use Rattle.tasks.specs.Table.{breaks, tableFault}
 use Rattle.tasks.specs.Number.{numberBytes, numberAt}
 use Rattle.tasks.specs.Sheet.{emptyTable, refusedWith, acceptedAs, fieldAt, andThen, taskOf, taskThen, taskAt, withTask, afterTask, tasksFrom, fromTasks, fromPolicy, sheetOf, taskBytes, tasksBytes, sheetBytes}
@@ -20,8 +20,8 @@ use Rattle.tasks.specs.declared.sheet.Sheet.{Sheet}
 use Rattle.tasks.specs.declared.sheet.Task.{Task}
 use Rattle.tasks.specs.declared.sheet.TaskRead.{TaskRead}
 use Rattle.tasks.specs.declared.sheet.TaskRead.the-variants as TaskRead
-use Rattle.tasks.proofs.Bools.{by-bool}
-use Rattle.tasks.proofs.Fill.{eight-at}
+use Rattle.lists.proofs.Bools.{by-bool}
+use Rattle.lists.proofs.Fill.{eight-at}
 use Rattle.tasks.proofs.Groups.{Stands, number-stands, number-read}
 use Rattle.tasks.proofs.Fields.{field-read, field-passes}
 use Rattle.tasks.proofs.Tables.{FitTask, fit-task, task-fits, Valid, valid, not-refused}

@@ -6,11 +6,11 @@ use native.Mathlib.Omega.{arith}
 use lib.Dec.{ltb}
 use lib.ListN.{getD}
 use borrow.Author.Tests.{lt-ltb, le-ltb, ltb-true, ltb-false}
-use Rattle.tasks.specs.Lists.{pick, any}
+use Rattle.lists.specs.Lists.{pick, any}
 use Rattle.tasks.specs.Table.{outside, breaks, faultAt, tableFault}
 use Rattle.tasks.specs.declared.table.Table.{Table}
-use Rattle.tasks.proofs.Bools.{by-bool, nor-left, nor-right}
-use Rattle.tasks.proofs.Counts.{any-false, none-any}
+use Rattle.lists.proofs.Bools.{by-bool, nor-left, nor-right}
+use Rattle.lists.proofs.Counts.{any-false, none-any}
 
 -- 1 ≤ C ≤ D ≤ P ≤ 200
 pub record FitTask (work deadline gap : ℕ) : Type 0 where

@@ -10,16 +10,17 @@ use lib.ListN.{getD}
 use mir.Syntax.{w8, w16}
 use mir.Val.{Fits}
 use borrow.Author.Tests.{le-ltb, ltb-true}
-use Rattle.tasks.specs.Lists.{eight, pick}
+use Rattle.lists.specs.Lists.{eight, pick}
 use Rattle.tasks.specs.State.{start, notPreempted, ready, started, keeps}
 use Rattle.tasks.specs.Tick.{bit, released, runs, chosen, ranAt, fallen, ran, after}
-use Rattle.tasks.specs.Places.{shifted, shiftedAt, place, taken}
+use Rattle.cores.specs.Walk.{taken}
+use Rattle.tasks.specs.Places.{shifted, shiftedAt, place}
 use Rattle.tasks.specs.Words.{wordsOf, stateOf}
 use Rattle.tasks.specs.Ticker.{tickerOf, oldPlace, oldWord, preparedBy, selected, lowered, tickedBy}
 use Rattle.tasks.specs.declared.state.State.{State}
 use Rattle.tasks.specs.declared.table.Table.{Table}
-use Rattle.tasks.proofs.Bools.{by-bool, and-left}
-use Rattle.tasks.proofs.Fill.{eight-at, eight-same}
+use Rattle.lists.proofs.Bools.{by-bool, and-left}
+use Rattle.lists.proofs.Fill.{eight-at, eight-same}
 use Rattle.tasks.proofs.Place.{Bytes, taken-runs}
 use Rattle.tasks.proofs.Bits.{mask-test}
 use Rattle.tasks.proofs.InWords.{TableBytes, StateBytes, WordList, state-same, words-at, words-fit, words-state}
@@ -190,11 +191,13 @@ module _ (t : Table) (v : List ℕ) (mask : ℕ) (bytes : TableBytes t) (words :
       ∙ eight-at 0 (λ i. oldWord (getD v i 0)) i h
       ∙ rw (work-old i h e, gap-old i h e))
 
+  -- LAW: the walk goes through the places of the state after the release
+  pub places-at : eight places ≡ eight (place t u)
+  places-at = eight-same places (place t u) place-at
+
   -- the tasks taken are those that run
   taken-at : (i : ℕ) → i < 8 → taken (eight places) (t .m) i ≡ runs t u i
-  taken-at i h =
-      ap (λ l. taken l (t .m) i) (eight-same places (place t u) place-at)
-      ∙ taken-runs t u place-bytes i h
+  taken-at i h = ap (λ l. taken l (t .m) i) places-at ∙ taken-runs t u place-bytes i h
 
   ticked-at :
       (i : ℕ) → i < 8

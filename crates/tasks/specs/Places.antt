@@ -5,7 +5,7 @@ use mathlib.Core.List.{List}
 use mathlib.Core.Bool.{Bool, _&&_, _||_}
 use lib.ListN.{getD}
 use lib.Dec.{ltb, eqb}
-use Rattle.tasks.specs.Lists.{pick, count}
+use Rattle.lists.specs.Lists.{pick, count}
 use Rattle.tasks.specs.State.{ready, keeps}
 use Rattle.tasks.specs.declared.state.State.{State}
 use Rattle.tasks.specs.declared.table.Table.{Table}
@@ -24,19 +24,3 @@ shiftedAt t s i = shifted (ltb (t .policy) 2) (getD (t .deadline) i 0) (getD (t 
 -- the place of task i
 unfoldable pub place : Table → State → ℕ → ℕ
 place t s i = placeOf (ready s i) (keeps t s i) (shiftedAt t s i) i
-
--- the place at k is below x
-unfoldable pub under : List ℕ → ℕ → ℕ → Bool
-under places x k = ltb (getD places k 0) x
-
--- how many of the first n places are below that of task i
-unfoldable pub rank : List ℕ → ℕ → ℕ → ℕ
-rank places n i = count n (under places (getD places i 0))
-
--- a task runs, by its place and its rank: it has a job, which keeps its processor or has fewer than m before it
-abbrev pub runsBy : ℕ → ℕ → ℕ → Bool
-runsBy at below m = ltb at 65535 && (eqb at 0 || ltb below m)
-
--- task i runs, by its place and its rank among all
-unfoldable pub taken : List ℕ → ℕ → ℕ → Bool
-taken places m i = runsBy (getD places i 0) (rank places 8 i) m

@@ -6,7 +6,7 @@ use mathlib.Core.List.{List, [], _∷_, _++_}
 use mathlib.Core.Bool.{_||_}
 use lib.ListN.{length, getD, set, drop}
 use lib.Dec.{ltb}
-use Rattle.tasks.specs.Lists.{eight, pick}
+use Rattle.lists.specs.Lists.{eight, pick}
 use Rattle.tasks.specs.Table.{breaks, tableFault}
 use Rattle.tasks.specs.Number.{numberBytes, numberAt}
 use Rattle.tasks.specs.declared.number.Number.{Number}

@@ -5,7 +5,7 @@ use lib.ListN.{getD}
 use lib.Dec.{eqb, ltb, leb}
 use lib.IntN.{ℤ, pos, _-ℤ_}
 use lib.Signed.{ltZ}
-use Rattle.tasks.specs.Lists.{eight, count, any}
+use Rattle.lists.specs.Lists.{eight, count, any}
 use Rattle.tasks.specs.declared.state.State.{State}
 use Rattle.tasks.specs.declared.table.Table.{Table}
 

@@ -3,7 +3,7 @@ use Prim.Native.Nat.{ℕ}
 use mathlib.Core.Bool.{Bool, _||_}
 use lib.ListN.{getD}
 use lib.Dec.{ltb}
-use Rattle.tasks.specs.Lists.{pick, any}
+use Rattle.lists.specs.Lists.{pick, any}
 use Rattle.tasks.specs.declared.table.Table.{Table}
 
 -- not 1 to 8

@@ -6,7 +6,7 @@ use lib.ListN.{getD}
 use lib.Dec.{eqb, ltb, leb}
 use lib.IntN.{ℤ, pos}
 use lib.Signed.{ltZ}
-use Rattle.tasks.specs.Lists.{eight, pick, count, any}
+use Rattle.lists.specs.Lists.{eight, pick, count, any}
 use Rattle.tasks.specs.Table.{tableFault}
 use Rattle.tasks.specs.State.{timeLeftAt, ready, keeps, late, improper}
 use Rattle.tasks.specs.declared.state.State.{State}

@@ -6,10 +6,11 @@ use mathlib.Core.Bool.{false}
 use lib.Bits.{bitAnd}
 use lib.ListN.{getD}
 use lib.Dec.{eqb, ltb}
-use Rattle.tasks.specs.Lists.{eight, pick, byteOf}
+use Rattle.lists.specs.Lists.{eight, pick, byteOf}
 use Rattle.tasks.specs.State.{start, notPreempted}
 use Rattle.tasks.specs.Tick.{released, ran}
-use Rattle.tasks.specs.Places.{shifted, place, taken}
+use Rattle.cores.specs.Walk.{taken}
+use Rattle.tasks.specs.Places.{shifted, place}
 use Rattle.tasks.specs.Words.{wordsOf}
 use Rattle.tasks.specs.declared.table.Table.{Table}
 use Rattle.tasks.specs.declared.ticker.Prepared.{Prepared}

@@ -6,7 +6,7 @@ use lib.Dec.{eqb, ltb}
 use lib.IntN.{pos}
 use lib.ListN.{getD}
 use lib.Signed.{ltZ}
-use Rattle.tasks.specs.Lists.{any}
+use Rattle.lists.specs.Lists.{any}
 use Rattle.tasks.specs.State.{slack}
 use Rattle.tasks.specs.declared.state.State.{State}
 use Rattle.tasks.specs.declared.table.Table.{Table}

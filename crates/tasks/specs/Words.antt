@@ -3,7 +3,7 @@
 use Prim.Native.Nat.{ℕ, _+_, _*_, _/_, _%_}
 use mathlib.Core.List.{List}
 use lib.ListN.{getD}
-use Rattle.tasks.specs.Lists.{eight}
+use Rattle.lists.specs.Lists.{eight}
 use Rattle.tasks.specs.declared.state.State.{State}
 
 unfoldable pub wordsOf : State → List ℕ

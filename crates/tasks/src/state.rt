@@ -1,7 +1,7 @@
 // The state by value: its release and run, the miss, and when it is proper.
 ghost use mathlib.Core.Path.{_≡_};
 ghost use Prim.Native.Nat.{_-_, _<_};
-ghost use Rattle.tasks.specs.Lists.{count, any};
+ghost use Rattle.lists.specs.Lists.{count, any};
 ghost use Rattle.tasks.specs.State.{start, timeLeft, slack, started, keeps, lateJob, late, improperAt, improper};
 ghost use Rattle.tasks.specs.Tick.{bit, released, ran, missed, illegalAt, illegal};
 use crate::table::Table;

@@ -2,7 +2,7 @@
 use crate::widths::wide;
 ghost use mathlib.Core.Path.{_≡_};
 ghost use Prim.Native.Nat.{_<_};
-ghost use Rattle.tasks.specs.Lists.{any};
+ghost use Rattle.lists.specs.Lists.{any};
 ghost use Rattle.tasks.specs.Table.{outside, breaks, faultAt, tableFault};
 
 // A table in memory: policy, processors, tasks, and for each of eight tasks its work C, deadline D and least gap P.

@@ -3,12 +3,10 @@ ghost use mathlib.Core.Path.{_≡_};
 ghost use Prim.Native.Nat.{_+_, _-_, _*_, _<_, _≤_};
 ghost use lib.ListN.{getD};
 ghost use lib.Dec.{ltb};
-ghost use Rattle.tasks.specs.Lists.{eight, pick};
+ghost use Rattle.lists.specs.Lists.{eight, pick};
 ghost use Rattle.tasks.specs.State.{notPreempted};
 ghost use Rattle.tasks.specs.Places.{shifted};
 ghost use Rattle.tasks.specs.Ticker.{tickerOf, oldPlace, oldWord, preparedBy, selected, lowered, tickedBy, freeBy};
-use crate::places::ranks;
-use crate::places::runs_by;
 use crate::places::shifted;
 use crate::state::State;
 use crate::table::Table;
@@ -73,12 +71,11 @@ fn old_words(v: [u16; 8]) -> [u16; 8]
 fn lowered(places: [u16; 8], words: [u16; 8], m: u16) -> [u16; 8]
     ensures { λ r. ⌜ r ≡ lowered places words m ⌝ }
 {
-    let ranks = ranks(places);
+    let run = cores::assign_quickly(places, m);
     let mut out = [0u16; 8];
     let mut i: usize = 0;
     while i < 8 {
-        let run = runs_by(places[i], ranks[i], m);
-        out[i] = less(words[i], run as u16);
+        out[i] = less(words[i], run[i]);
         i += 1;
     }
     out

@@ -1,7 +1,7 @@
 // Bytes as wider numbers, and the choice of one of two numbers, once a width.
 ghost use mathlib.Core.Path.{_≡_};
 ghost use Prim.Native.Nat.{_<_};
-ghost use Rattle.tasks.specs.Lists.{pick};
+ghost use Rattle.lists.specs.Lists.{pick};
 
 // A byte as a number that an index or a sum can hold.
 pub fn wide(x: u8) -> usize

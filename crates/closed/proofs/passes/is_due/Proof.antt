@@ -1,7 +1,7 @@
 -- Case by case. Assumes nothing.
 use mathlib.Core.Path.{refl}
 use borrow.Author.Tests.{eq-eqb, ne-eqb}
-use Rattle.tasks.proofs.Picks.{pick-yes, pick-no}
+use Rattle.lists.proofs.Picks.{pick-yes, pick-no}
 use Rattle.closed.proofs.passes.is_due.Statement.{statement}
 use Rattle.closed.proofs.passes.is_due.Tie as tie
 

@@ -1,7 +1,7 @@
 -- Case by case. Assumes nothing.
 use Prim.Native.Nat.{min}
 use mathlib.Core.Path.{sym, ap, _∙_}
-use Rattle.tasks.specs.Lists.{pick}
+use Rattle.lists.specs.Lists.{pick}
 use Rattle.closed.proofs.PassLaws.{landing-now, landing-far}
 use borrow.Author.Needs.{needs}
 use Rattle.closed.proofs.passes.landing.Statement.{statement}

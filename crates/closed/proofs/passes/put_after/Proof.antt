@@ -3,7 +3,7 @@ use mathlib.Core.Path.{ap, _∙_}
 use borrow.Author.Tests.{not-true}
 use Rattle.tasks.specs.Words.{stateOf}
 use Rattle.tasks.specs.Ticker.{tickedBy}
-use Rattle.tasks.proofs.Bools.{clash}
+use Rattle.lists.proofs.Bools.{clash}
 use Rattle.states.specs.Keys.{keyOf}
 use Rattle.states.proofs.WordLaws.{word-bytes}
 use Rattle.closed.specs.Keeping.{classOf}

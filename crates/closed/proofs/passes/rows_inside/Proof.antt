@@ -5,7 +5,7 @@ use mathlib.Core.Bool.{true, false}
 use borrow.Author.Tests.{not-true, not-false, leb-false, eqb-false}
 use lib.Dec.{leb, eqb}
 use lib.ListN.{length}
-use Rattle.tasks.proofs.Bools.{nor-left, nor-right}
+use Rattle.lists.proofs.Bools.{nor-left, nor-right}
 use Rattle.closed.proofs.InsideLaws.{RowsTo}
 use Rattle.closed.proofs.PendingLaws.{Waiting, waiting-start, waiting-next, waiting-held, waiting-end, waiting-open}
 use native.Mathlib.Omega.{arith}

@@ -5,10 +5,10 @@ use mathlib.Core.Path.{_≡_}
 use mathlib.Core.Bool.{_&&_}
 use lib.Dec.{ltb}
 use lib.ListN.{getD}
-use Rattle.tasks.specs.Lists.{count}
+use Rattle.lists.specs.Lists.{count}
 use Rattle.tasks.specs.State.{started}
 use Rattle.tasks.specs.Words.{stateOf}
-use Rattle.tasks.proofs.Turns.{count-none, count-turn, count-end, count-room}
+use Rattle.lists.proofs.Turns.{count-none, count-turn, count-end, count-room}
 use Rattle.closed.proofs.SoundLaws.{started-word}
 use borrow.Author.Needs.{needs}
 use Rattle.closed.proofs.sound.count_started.Statement.{statement}

@@ -4,9 +4,9 @@ use Prim.Native.Nat.{_≤_, _-_}
 use mathlib.Core.Path.{_≡_}
 use lib.Dec.{ltb}
 use lib.ListN.{getD}
-use Rattle.tasks.specs.Lists.{count}
+use Rattle.lists.specs.Lists.{count}
 use Rattle.tasks.specs.Words.{stateOf}
-use Rattle.tasks.proofs.Turns.{count-none, count-turn, count-end, count-room}
+use Rattle.lists.proofs.Turns.{count-none, count-turn, count-end, count-room}
 use Rattle.closed.specs.Keeping.{workAbove}
 use Rattle.closed.proofs.SoundLaws.{work-above-word}
 use borrow.Author.Needs.{needs}

@@ -4,7 +4,7 @@ use mathlib.Core.Bool.{Bool, true, false, not, _&&_}
 use borrow.Author.Tests.{not-true, not-false}
 use Rattle.tasks.specs.Tight.{tight}
 use Rattle.tasks.specs.Words.{stateOf}
-use Rattle.tasks.proofs.Bools.{clash}
+use Rattle.lists.proofs.Bools.{clash}
 use Rattle.tasks.proofs.InWords.{TableBytes, WordList}
 use Rattle.states.specs.Miss.{fullBy}
 use Rattle.states.proofs.MissLaws.{full-by, calm-by}

@@ -1,43 +1,27 @@
 use Prim.Native.Nat.{_≤_, _-_}
-use mathlib.Core.Path.{_≡_, refl, ap, _∙_}
+use mathlib.Core.Path.{refl, ap, _∙_}
 use lib.ListN.{getD}
-use native.Mathlib.Omega.{arith}
-use Rattle.tasks.specs.Lists.{eight, pick}
-use Rattle.tasks.specs.Places.{rank, taken}
+use Rattle.lists.specs.Lists.{pick}
+use Rattle.lists.proofs.Fill.{eight-same, Filled, filled-start, filled-store, filled-end}
+use Rattle.cores.specs.Walk.{taken}
+use Rattle.cores.proofs.WalkLaws.{served-at}
 use Rattle.tasks.specs.Ticker.{lowered}
-use Rattle.tasks.proofs.Fill.{Filled, filled-start, filled-store, filled-end}
-use Rattle.tasks.proofs.Turns.{bool-byte}
-use Rattle.tasks.proofs.Place.{rank-read}
+use native.Mathlib.Omega.{arith}
 use borrow.Author.Needs.{needs}
 use Rattle.tasks.proofs.ticker.lowered.Statement.{statement}
 use Rattle.tasks.proofs.ticker.lowered.Tie as tie
 
 abbrev Inv-loop : tie.InvT-loop
-Inv-loop m places words ranks out₀ i₀ out i = (i ≤ 8) × (ranks ≡ eight (rank places 8)) × Filled 0 (λ i. getD words i 0 - pick (taken places m i) 1 0) out i
+Inv-loop m words run out₀ i₀ out i = (i ≤ 8) × Filled 0 (λ i. getD words i 0 - getD run i 0) out i
 
 abbrev μ-loop : tie.MeasureT-loop
-μ-loop m places words ranks out₀ i₀ out i = 8 - i
+μ-loop m words run out₀ i₀ out i = 8 - i
 
-ranks-requires : tie.Need-ranks-requires Inv-loop μ-loop
-ranks-requires c κs = search needs
+assign-quickly-requires : tie.Need-assign-quickly-requires Inv-loop μ-loop
+assign-quickly-requires c κs = search needs
 
 loop-holds : tie.Need-loop-holds Inv-loop μ-loop
-loop-holds c = (omega arith, c .ranks .ensures, filled-start refl)
-
-mul-runs-by : tie.Need-mul-runs-by Inv-loop μ-loop
-mul-runs-by c = search needs
-
-array-read-runs-by : tie.Need-array-read-runs-by Inv-loop μ-loop
-array-read-runs-by c = search needs
-
-mul-runs-by-2 : tie.Need-mul-runs-by-2 Inv-loop μ-loop
-mul-runs-by-2 c = search needs
-
-array-read-runs-by-2 : tie.Need-array-read-runs-by-2 Inv-loop μ-loop
-array-read-runs-by-2 c = search needs
-
-runs-by-requires : tie.Need-runs-by-requires Inv-loop μ-loop
-runs-by-requires c κs = search needs
+loop-holds c = (omega arith, filled-start refl)
 
 mul-less : tie.Need-mul-less Inv-loop μ-loop
 mul-less c = search needs
@@ -45,8 +29,11 @@ mul-less c = search needs
 array-read-less : tie.Need-array-read-less Inv-loop μ-loop
 array-read-less c = search needs
 
-cast-less : tie.Need-cast-less Inv-loop μ-loop
-cast-less c = search needs
+mul-less-2 : tie.Need-mul-less-2 Inv-loop μ-loop
+mul-less-2 c = search needs
+
+array-read-less-2 : tie.Need-array-read-less-2 Inv-loop μ-loop
+array-read-less-2 c = search needs
 
 less-requires : tie.Need-less-requires Inv-loop μ-loop
 less-requires c κs = search needs
@@ -64,17 +51,16 @@ loop-less : tie.Need-loop-less Inv-loop μ-loop
 loop-less c = search needs
 
 loop-again : tie.Need-loop-again Inv-loop μ-loop
-unfolding taken
-loop-again c =
-    let run = c .before in
-    let h = run .before .before in
-    let a = h .before .before .args in
-    let k = rank-read (a .t1) 8 (h .loop .i) (h .loop .inv .1) (omega arith) in
-    (omega arith, h .loop .inv .1, filled-store (h .loop .inv .2) (omega arith) (c .less .ensures ∙ rw (run .runs-by .ensures, k) (ap (λ n. getD (a .t2) (h .loop .i) 0 - n) (bool-byte (taken (a .t1) (a .m) (h .loop .i))))))
+loop-again c = (omega arith, filled-store (c .before .before .loop .inv .1) (omega arith) (c .less .ensures))
 
 returns : tie.Need-returns Inv-loop μ-loop
 unfolding lowered
-returns c = filled-end (c .before .loop .inv .2) (c .loop-test .left)
+returns c =
+    let h = c .before .before in
+    let a = h .before .args in
+    filled-end (c .before .loop .inv .1) (c .loop-test .left)
+    ∙ eight-same _ (λ i. getD (a .t2) i 0 - pick (taken (a .places) (a .m) i) 1 0)
+    (λ i b. ap (λ x. getD (a .t2) i 0 - x) (served-at (a .places) (a .m) (h .assign-quickly .ensures) i b))
 
 pub lowered-spec : {M : Type 1} → statement M
 lowered-spec =
@@ -82,16 +68,12 @@ lowered-spec =
     (tie.spec
     Inv-loop
     μ-loop
-    ranks-requires
+    assign-quickly-requires
     loop-holds
-    mul-runs-by
-    array-read-runs-by
-    mul-runs-by-2
-    array-read-runs-by-2
-    runs-by-requires
     mul-less
     array-read-less
-    cast-less
+    mul-less-2
+    array-read-less-2
     less-requires
     mul-out
     array-write-out

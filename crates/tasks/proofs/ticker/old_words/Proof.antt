@@ -3,7 +3,7 @@ use mathlib.Core.Path.{refl}
 use lib.ListN.{getD}
 use native.Mathlib.Omega.{arith}
 use Rattle.tasks.specs.Ticker.{oldWord}
-use Rattle.tasks.proofs.Fill.{Filled, filled-start, filled-store, filled-end}
+use Rattle.lists.proofs.Fill.{Filled, filled-start, filled-store, filled-end}
 use borrow.Author.Needs.{needs}
 use Rattle.tasks.proofs.ticker.old_words.Statement.{statement}
 use Rattle.tasks.proofs.ticker.old_words.Tie as tie

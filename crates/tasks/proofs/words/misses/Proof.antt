@@ -1,11 +1,11 @@
 use native.Mathlib.Omega.{arith}
 use Prim.Native.Nat.{_≤_, _-_}
 use mathlib.Core.Path.{_≡_}
-use Rattle.tasks.specs.Lists.{any}
+use Rattle.lists.specs.Lists.{any}
 use Rattle.tasks.specs.State.{late}
 use Rattle.tasks.specs.Tick.{missed}
 use Rattle.tasks.specs.Words.{stateOf}
-use Rattle.tasks.proofs.Turns.{any-none, any-turn, any-end}
+use Rattle.lists.proofs.Turns.{any-none, any-turn, any-end}
 use Rattle.tasks.proofs.InWords.{late-word}
 use borrow.Author.Needs.{needs}
 use Rattle.tasks.proofs.words.misses.Statement.{statement}

@@ -1,9 +1,14 @@
--- The invariant: the first i tasks are judged. Assumes nothing.
+-- The invariant: the first i tasks are read off the walk. Assumes nothing.
 use Prim.Native.Nat.{ℕ, _≤_, _-_}
 use mathlib.Core.Path.{refl, _∙_}
 use mathlib.Core.Bool.{false}
-use Rattle.tasks.specs.Places.{rank, taken}
-use Rattle.tasks.proofs.Fill.{Filled, filled-start, filled-store, filled-end}
+use lib.Dec.{ltb}
+use lib.ListN.{getD}
+use Rattle.lists.specs.Lists.{eight}
+use Rattle.lists.proofs.Fill.{eight-same, Filled, filled-start, filled-store, filled-end}
+use Rattle.cores.specs.Walk.{taken}
+use Rattle.cores.proofs.WalkLaws.{served-test}
+use Rattle.tasks.specs.Places.{place}
 use Rattle.tasks.proofs.Place.{Bytes, taken-chosen}
 use native.Mathlib.Omega.{arith}
 use borrow.Author.Needs.{needs}
@@ -11,10 +16,10 @@ use Rattle.tasks.proofs.state.State.choose.Statement.{statement}
 use Rattle.tasks.proofs.state.State.choose.Tie as tie
 
 abbrev Inv-loop : tie.InvT-loop
-Inv-loop places m run₀ i₀ run i = (i ≤ 8) × Filled false (taken places m) run i
+Inv-loop given run₀ i₀ run i = (i ≤ 8) × Filled false (λ i. ltb 0 (getD given i 0)) run i
 
 abbrev μ-loop : tie.MeasureT-loop
-μ-loop places m run₀ i₀ run i = 8 - i
+μ-loop given run₀ i₀ run i = 8 - i
 
 places-requires : tie.Need-places-requires Inv-loop μ-loop
 places-requires c κs = search needs
@@ -22,20 +27,17 @@ places-requires c κs = search needs
 wide16-requires : tie.Need-wide16-requires Inv-loop μ-loop
 wide16-requires c κs = search needs
 
+assign-requires : tie.Need-assign-requires Inv-loop μ-loop
+assign-requires c κs = search needs
+
 loop-holds : tie.Need-loop-holds Inv-loop μ-loop
 loop-holds c = (omega arith, filled-start refl)
 
-mul-x : tie.Need-mul-x Inv-loop μ-loop
-mul-x c = search needs
+mul-run : tie.Need-mul-run Inv-loop μ-loop
+mul-run c = search needs
 
-array-read-x : tie.Need-array-read-x Inv-loop μ-loop
-array-read-x c = search needs
-
-rank-of-requires : tie.Need-rank-of-requires Inv-loop μ-loop
-rank-of-requires c κs = search needs
-
-runs-by-requires : tie.Need-runs-by-requires Inv-loop μ-loop
-runs-by-requires c κs = search needs
+array-read-run : tie.Need-array-read-run Inv-loop μ-loop
+array-read-run c = search needs
 
 array-write-run : tie.Need-array-write-run Inv-loop μ-loop
 array-write-run c = search needs
@@ -47,8 +49,7 @@ loop-less : tie.Need-loop-less Inv-loop μ-loop
 loop-less c = search needs
 
 loop-again : tie.Need-loop-again Inv-loop μ-loop
-unfolding taken rank
-loop-again c = (omega arith, filled-store (c .before .before .before .loop .inv .1) (omega arith) (c .runs-by .ensures ∙ rw (c .before .rank-of .ensures)))
+loop-again c = (omega arith, filled-store (c .before .loop .inv .1) (omega arith) refl)
 
 -- the numbers that a place is made of are bytes
 bytes : (c : tie.Start Inv-loop μ-loop) (i : ℕ) → Bytes (c .args .t) (c .args .self) i
@@ -56,9 +57,14 @@ bytes c i = record { deadline = search needs; gap = search needs; p = search nee
 
 returns : tie.Need-returns Inv-loop μ-loop
 returns c =
-    let first = c .before .before .before .before in
+    let walk = c .before .before in
+    let first = walk .before .before .before in
+    let t = first .args .t in
+    let s = first .args .self in
+    let is = rw (walk .before .wide16 .ensures .0, walk .before .before .places .ensures) at (walk .assign .ensures) in
     filled-end (c .before .loop .inv .1) (c .loop-test .left)
-    ∙ rw (c .before .before .wide16 .ensures .0, c .before .before .before .places .ensures) (taken-chosen (first .args .t) (first .args .self) (λ i b. bytes first i))
+    ∙ eight-same _ (taken (eight (place t s)) (t .m)) (served-test (eight (place t s)) (t .m) is)
+    ∙ taken-chosen t s (λ i b. bytes first i)
 
 pub choose-spec : {M : Type 1} → statement M
 choose-spec =
@@ -68,11 +74,10 @@ choose-spec =
     μ-loop
     places-requires
     wide16-requires
+    assign-requires
     loop-holds
-    mul-x
-    array-read-x
-    rank-of-requires
-    runs-by-requires
+    mul-run
+    array-read-run
     array-write-run
     add-i
     loop-less

@@ -1,9 +1,9 @@
 use native.Mathlib.Omega.{arith}
 use Prim.Native.Nat.{_≤_, _-_}
 use mathlib.Core.Path.{_≡_}
-use Rattle.tasks.specs.Lists.{count}
+use Rattle.lists.specs.Lists.{count}
 use Rattle.tasks.specs.State.{keeps}
-use Rattle.tasks.proofs.Turns.{count-none, count-turn, count-end, count-room}
+use Rattle.lists.proofs.Turns.{count-none, count-turn, count-end, count-room}
 use borrow.Author.Needs.{needs}
 use Rattle.tasks.proofs.state.State.count_kept.Statement.{statement}
 use Rattle.tasks.proofs.state.State.count_kept.Tie as tie

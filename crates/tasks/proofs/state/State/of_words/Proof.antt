@@ -3,7 +3,7 @@ use Prim.Native.Nat.{_≤_, _-_, _/_, _%_}
 use mathlib.Core.Path.{refl}
 use lib.ListN.{getD}
 use Rattle.tasks.specs.Words.{stateOf}
-use Rattle.tasks.proofs.Fill.{Filled, filled-start, filled-store, filled-end}
+use Rattle.lists.proofs.Fill.{Filled, filled-start, filled-store, filled-end}
 use borrow.Author.Needs.{needs}
 use Rattle.tasks.proofs.state.State.of_words.Statement.{statement}
 use Rattle.tasks.proofs.state.State.of_words.Tie as tie

@@ -2,7 +2,7 @@ use native.Mathlib.Omega.{arith}
 use Prim.Native.Nat.{_≤_, _-_}
 use mathlib.Core.Path.{refl}
 use Rattle.tasks.specs.Places.{place}
-use Rattle.tasks.proofs.Fill.{Filled, filled-start, filled-store, filled-end}
+use Rattle.lists.proofs.Fill.{Filled, filled-start, filled-store, filled-end}
 use borrow.Author.Needs.{needs}
 use Rattle.tasks.proofs.state.State.places.Statement.{statement}
 use Rattle.tasks.proofs.state.State.places.Tie as tie

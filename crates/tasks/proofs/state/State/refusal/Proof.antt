@@ -1,4 +1,4 @@
-use Rattle.tasks.proofs.Picks.{pick-yes, pick-no}
+use Rattle.lists.proofs.Picks.{pick-yes, pick-no}
 use mathlib.Core.Path.{sym, _∙_, refl}
 use borrow.Author.Tests.{lt-ltb, le-ltb}
 use Rattle.tasks.specs.Tick.{refusal}

@@ -1,7 +1,7 @@
 use Prim.Native.Nat.{_≤_, _-_}
 use mathlib.Core.Path.{refl}
 use native.Mathlib.Omega.{arith}
-use Rattle.tasks.proofs.Fill.{Filled, filled-start, filled-store, filled-end}
+use Rattle.lists.proofs.Fill.{Filled, filled-start, filled-store, filled-end}
 use Rattle.tasks.specs.Tick.{releasedAt, released}
 use borrow.Author.Needs.{needs}
 use Rattle.tasks.proofs.state.State.release.Statement.{statement}

@@ -2,7 +2,7 @@ use native.Mathlib.Omega.{arith}
 use Prim.Native.Nat.{_≤_, _-_}
 use mathlib.Core.Path.{refl}
 use Rattle.tasks.specs.Tick.{ranAt, fallen, ran}
-use Rattle.tasks.proofs.Fill.{Filled, filled-start, filled-store, filled-end}
+use Rattle.lists.proofs.Fill.{Filled, filled-start, filled-store, filled-end}
 use borrow.Author.Needs.{needs}
 use Rattle.tasks.proofs.state.State.run.Statement.{statement}
 use Rattle.tasks.proofs.state.State.run.Tie as tie

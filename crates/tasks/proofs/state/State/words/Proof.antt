@@ -3,7 +3,7 @@ use Prim.Native.Nat.{_≤_, _+_, _-_, _*_}
 use mathlib.Core.Path.{refl, ap₂}
 use lib.ListN.{getD}
 use Rattle.tasks.specs.Words.{wordsOf}
-use Rattle.tasks.proofs.Fill.{Filled, filled-start, filled-store, filled-end}
+use Rattle.lists.proofs.Fill.{Filled, filled-start, filled-store, filled-end}
 use borrow.Author.Needs.{needs}
 use Rattle.tasks.proofs.state.State.words.Statement.{statement}
 use Rattle.tasks.proofs.state.State.words.Tie as tie

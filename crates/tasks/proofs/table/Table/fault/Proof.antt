@@ -1,5 +1,5 @@
 -- The first test that holds picks the refusal. Assumes nothing.
-use Rattle.tasks.proofs.Picks.{pick-yes, pick-no}
+use Rattle.lists.proofs.Picks.{pick-yes, pick-no}
 use mathlib.Core.Path.{sym, _∙_, refl}
 use borrow.Author.Tests.{lt-ltb, le-ltb}
 use Rattle.tasks.specs.Table.{tableFault}

@@ -1,7 +1,7 @@
 use Prim.Native.Nat.{_^_}
 use mathlib.Core.Path.{ap, _∙_}
 use mathlib.Core.Bool.{false}
-use Rattle.tasks.specs.Lists.{eight}
+use Rattle.lists.specs.Lists.{eight}
 use Rattle.tasks.specs.Tick.{released, ran}
 use Rattle.tasks.specs.Places.{place}
 use Rattle.tasks.specs.Words.{wordsOf}

@@ -1,5 +1,5 @@
 use mathlib.Core.Path.{ap, ap₂, _∙_}
-use Rattle.tasks.specs.Lists.{eight}
+use Rattle.lists.specs.Lists.{eight}
 use Rattle.tasks.specs.Ticker.{selected, lowered, tickedBy}
 use borrow.Author.Needs.{needs}
 use Rattle.tasks.proofs.ticker.Ticker.after.Statement.{statement}

@@ -1,5 +1,5 @@
 use native.Mathlib.Omega.{arith}
-use Rattle.tasks.specs.Lists.{byteOf}
+use Rattle.lists.specs.Lists.{byteOf}
 use Rattle.tasks.specs.Ticker.{freeBy}
 use borrow.Author.Needs.{needs}
 use Rattle.tasks.proofs.ticker.Ticker.free.Statement.{statement}

@@ -2,7 +2,7 @@ use Prim.Native.Nat.{_≤_, _-_}
 use mathlib.Core.Path.{refl}
 use native.Mathlib.Omega.{arith}
 use Rattle.tasks.specs.Ticker.{selected}
-use Rattle.tasks.proofs.Fill.{Filled, filled-start, filled-store, filled-end}
+use Rattle.lists.proofs.Fill.{Filled, filled-start, filled-store, filled-end}
 use borrow.Author.Needs.{needs}
 use Rattle.tasks.proofs.ticker.Ticker.selected.Statement.{statement}
 use Rattle.tasks.proofs.ticker.Ticker.selected.Tie as tie

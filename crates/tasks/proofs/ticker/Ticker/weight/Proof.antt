@@ -1,7 +1,7 @@
 use mathlib.Core.Path.{refl}
 use native.Mathlib.Omega.{arith}
 use borrow.Author.Tests.{lt-ltb, le-ltb}
-use Rattle.tasks.proofs.Picks.{pick-yes, pick-no}
+use Rattle.lists.proofs.Picks.{pick-yes, pick-no}
 use borrow.Author.Needs.{needs}
 use Rattle.tasks.proofs.ticker.Ticker.weight.Statement.{statement}
 use Rattle.tasks.proofs.ticker.Ticker.weight.Tie as tie

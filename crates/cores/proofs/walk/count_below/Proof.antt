@@ -3,13 +3,13 @@ use Prim.Native.Nat.{_≤_, _-_}
 use mathlib.Core.Path.{_≡_, refl}
 use lib.Dec.{ltb}
 use lib.ListN.{getD}
-use Rattle.tasks.specs.Lists.{count}
-use Rattle.tasks.specs.Places.{under}
-use Rattle.tasks.proofs.Turns.{count-none, count-turn, count-end, count-room}
+use Rattle.lists.specs.Lists.{count}
+use Rattle.cores.specs.Walk.{under}
+use Rattle.lists.proofs.Turns.{count-none, count-turn, count-end, count-room, count-le}
 use native.Mathlib.Omega.{arith}
 use borrow.Author.Needs.{needs}
-use Rattle.tasks.proofs.places.rank_of.Statement.{statement}
-use Rattle.tasks.proofs.places.rank_of.Tie as tie
+use Rattle.cores.proofs.walk.count_below.Statement.{statement}
+use Rattle.cores.proofs.walk.count_below.Tie as tie
 
 abbrev Inv-loop : tie.InvT-loop
 Inv-loop x places n₀ i₀ n i = (i ≤ 8) × (n ≡ count i (under places x))
@@ -51,10 +51,12 @@ loop-again c =
 returns : tie.Need-returns Inv-loop μ-loop
 returns c =
     let h = c .before in
-    count-end (under (h .before .args .t1) (h .before .args .x)) (h .loop .inv .1) (h .loop .inv .0) (c .loop-test .left)
+    let p = under (h .before .args .t1) (h .before .args .x) in
+    let e = count-end p (h .loop .inv .1) (h .loop .inv .0) (c .loop-test .left) in
+    (e, omega (arith, count-le p 8))
 
-pub rank-of-spec : {M : Type 1} → statement M
-rank-of-spec =
+pub count-below-spec : {M : Type 1} → statement M
+count-below-spec =
     tie.close
     (tie.spec
     Inv-loop

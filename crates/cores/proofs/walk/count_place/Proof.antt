@@ -1,12 +1,12 @@
 use Prim.Native.Nat.{_≤_, _-_, _+_}
 use mathlib.Core.Path.{refl}
-use Rattle.tasks.specs.Places.{rank}
-use Rattle.tasks.proofs.Fill.{Filled, filled-start, filled-store, filled-end}
-use Rattle.tasks.proofs.Place.{rank-turn, rank-room}
+use Rattle.cores.specs.Walk.{rank}
+use Rattle.lists.proofs.Fill.{Filled, filled-start, filled-store, filled-end}
+use Rattle.cores.proofs.RankLaws.{rank-turn, rank-room}
 use native.Mathlib.Omega.{arith}
 use borrow.Author.Needs.{needs}
-use Rattle.tasks.proofs.places.count_place.Statement.{statement}
-use Rattle.tasks.proofs.places.count_place.Tie as tie
+use Rattle.cores.proofs.walk.count_place.Statement.{statement}
+use Rattle.cores.proofs.walk.count_place.Tie as tie
 
 abbrev Inv-loop : tie.InvT-loop
 Inv-loop i ranks places y out₀ j₀ out j = (j ≤ 8) × Filled 0 (rank places (i + 1)) out j

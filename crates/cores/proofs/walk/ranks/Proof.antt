@@ -1,13 +1,13 @@
 use Prim.Native.Nat.{_≤_, _-_}
 use mathlib.Core.Path.{_≡_}
-use Rattle.tasks.specs.Lists.{eight}
-use Rattle.tasks.specs.Places.{rank}
-use Rattle.tasks.proofs.Turns.{at-end}
-use Rattle.tasks.proofs.Place.{rank-start}
+use Rattle.lists.specs.Lists.{eight}
+use Rattle.cores.specs.Walk.{rank}
+use Rattle.lists.proofs.Turns.{at-end}
+use Rattle.cores.proofs.RankLaws.{rank-start}
 use native.Mathlib.Omega.{arith}
 use borrow.Author.Needs.{needs}
-use Rattle.tasks.proofs.places.ranks.Statement.{statement}
-use Rattle.tasks.proofs.places.ranks.Tie as tie
+use Rattle.cores.proofs.walk.ranks.Statement.{statement}
+use Rattle.cores.proofs.walk.ranks.Tie as tie
 
 abbrev Inv-loop : tie.InvT-loop
 Inv-loop places ranks₀ i₀ ranks i = (i ≤ 8) × (ranks ≡ eight (rank places i))

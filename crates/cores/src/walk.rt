@@ -1,0 +1,176 @@
+// A walk through the ready tasks in the order of their places that gives each a processor while one is left, and carries the number given out.
+ghost use mathlib.Core.Path.{_≡_};
+ghost use Prim.Native.Nat.{_+_, _<_, _≤_};
+ghost use lib.ListN.{getD};
+ghost use lib.Dec.{eqb};
+ghost use Rattle.lists.specs.Lists.{eight, pick, count};
+ghost use Rattle.cores.specs.Walk.{under, rank, keptCount, readyCount, served, Walked};
+
+// A walk on its way: 1 for each task that has been given a processor and 0 for the others, and how many have been given out.
+pub struct Walk {
+    run: [u16; 8],
+    count: u16,
+}
+
+// How many places are below x.
+fn count_below(places: [u16; 8], x: u16) -> u16
+    ensures { λ r. ⌜ (r ≡ count 8 (under places x)) × (r ≤ 8) ⌝ }
+{
+    let mut n: u16 = 0;
+    let mut i: usize = 0;
+    while i < 8 {
+        n += (places[i] < x) as u16;
+        i += 1;
+    }
+    n
+}
+
+// 1 for each place below x, and 0 for the others.
+fn below(places: [u16; 8], x: u16) -> [u16; 8]
+    ensures { λ r. ⌜ r ≡ eight (λ i. pick (under places x i) 1 0) ⌝ }
+{
+    let mut out = [0u16; 8];
+    let mut i: usize = 0;
+    while i < 8 {
+        out[i] = (places[i] < x) as u16;
+        i += 1;
+    }
+    out
+}
+
+// The ranks of all tasks, with place i counted too: one more for each task whose place is above it.
+fn count_place(ranks: [u16; 8], places: [u16; 8], i: usize) -> [u16; 8]
+    requires { ⌜ (i < 8) × (ranks ≡ eight (rank places i)) ⌝ }
+    ensures { λ r. ⌜ r ≡ eight (rank places (i + 1)) ⌝ }
+{
+    let y = places[i];
+    let mut out = [0u16; 8];
+    let mut j: usize = 0;
+    while j < 8 {
+        out[j] = ranks[j] + ((y < places[j]) as u16);
+        j += 1;
+    }
+    out
+}
+
+// For each task, how many places are below its own.
+fn ranks(places: [u16; 8]) -> [u16; 8]
+    ensures { λ r. ⌜ r ≡ eight (rank places 8) ⌝ }
+{
+    let mut ranks = [0u16; 8];
+    let mut i: usize = 0;
+    while i < 8 {
+        let more = count_place(ranks, places, i);
+        ranks = more;
+        i += 1;
+    }
+    ranks
+}
+
+// The same, one task after the other.
+fn ranks_singly(places: [u16; 8]) -> [u16; 8]
+    ensures { λ r. ⌜ r ≡ eight (rank places 8) ⌝ }
+{
+    let mut out = [0u16; 8];
+    let mut i: usize = 0;
+    while i < 8 {
+        out[i] = count_below(places, places[i]);
+        i += 1;
+    }
+    out
+}
+
+// 1 where the task is given a processor now, else what it was.
+fn given(now: bool, run: u16) -> u16
+    ensures { λ r. ⌜ r ≡ pick now 1 run ⌝ }
+{
+    if now { 1 } else { run }
+}
+
+// The tasks chosen, with those of the rank.
+fn with_rank(ranks: [u16; 8], run: [u16; 8], rank: u16) -> [u16; 8]
+    ensures { λ r. ⌜ r ≡ eight (λ i. pick (eqb (getD ranks i 0) rank) 1 (getD run i 0)) ⌝ }
+{
+    let mut out = [0u16; 8];
+    let mut i: usize = 0;
+    while i < 8 {
+        out[i] = given(ranks[i] == rank, run[i]);
+        i += 1;
+    }
+    out
+}
+
+// The start of a walk: the jobs that keep their processors, and their number.
+fn assign_kept(places: [u16; 8], m: u16) -> Walk
+    ensures { λ r. ⌜ Walked places m (r .run) (r .count) × (r .count ≡ keptCount places) ⌝ }
+{
+    Walk {
+        run: below(places, 1),
+        count: count_below(places, 1),
+    }
+}
+
+// A step: the next processor goes to the task that has as many before it as have been given out.
+fn assign_next(places: [u16; 8], ranks: [u16; 8], m: u16, walk: Walk) -> Walk
+    requires { ⌜ (ranks ≡ eight (rank places 8)) × Walked places m (walk .run) (walk .count) × (walk .count < m) × (walk .count < readyCount places) ⌝ }
+    ensures { λ r. ⌜ Walked places m (r .run) (r .count) × (r .count ≡ walk .count + 1) ⌝ }
+{
+    let run = walk.run;
+    let count = walk.count;
+    Walk {
+        run: with_rank(ranks, run, count),
+        count: count + 1,
+    }
+}
+
+// A step that ends a walk: all that wait are given a processor, where there is one for each.
+fn assign_rest(places: [u16; 8], m: u16, waiting: u16, walk: Walk) -> Walk
+    requires { ⌜ (walk .count + waiting ≡ readyCount places) × (walk .count + waiting ≤ m) ⌝ }
+    ensures { λ r. ⌜ Walked places m (r .run) (r .count) × (r .count ≡ walk .count + waiting) ⌝ }
+{
+    let count = walk.count;
+    Walk {
+        run: below(places, 65535),
+        count: count + waiting,
+    }
+}
+
+// A walk to its end: one step after the other, while a processor is left and a task waits for it.
+fn assign_each(places: [u16; 8], ranks: [u16; 8], m: u16, start: Walk) -> [u16; 8]
+    requires { ⌜ (ranks ≡ eight (rank places 8)) × Walked places m (start .run) (start .count) ⌝ }
+    ensures { λ r. ⌜ r ≡ served places m ⌝ }
+{
+    let ready = count_below(places, 65535);
+    let mut walk = start;
+    while walk.count < m {
+        if ready <= walk.count {
+            break;
+        }
+        let next = assign_next(places, ranks, m, walk);
+        walk = next;
+    }
+    walk.run
+}
+
+// Which tasks run with m processors: 1 for each, and 0 for the others.
+pub fn assign(places: [u16; 8], m: u16) -> [u16; 8]
+    ensures { λ r. ⌜ r ≡ served places m ⌝ }
+{
+    let walk = assign_kept(places, m);
+    assign_each(places, ranks_singly(places), m, walk)
+}
+
+// The same for many ticks. Where there is a processor for each ready task one step gives out all; else all tasks are ranked at once. It
+// has one caller: the compiler keeps a function of this size out of line where it has two.
+pub fn assign_quickly(places: [u16; 8], m: u16) -> [u16; 8]
+    ensures { λ r. ⌜ r ≡ served places m ⌝ }
+{
+    let walk = assign_kept(places, m);
+    let count = walk.count;
+    let waiting = count_below(places, 65535) - count;
+    if count + waiting <= m {
+        let all = assign_rest(places, m, waiting, walk);
+        return all.run;
+    }
+    assign_each(places, ranks(places), m, walk)
+}

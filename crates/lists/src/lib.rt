@@ -1,0 +1,1 @@
+// Lists of eight, counts and searches over the numbers below n, and tests: definitions in specs/, laws in proofs/.
