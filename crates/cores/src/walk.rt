@@ -7,7 +7,7 @@ ghost use Rattle.lists.specs.Lists.{eight, pick, count};
 ghost use Rattle.cores.specs.Walk.{under, rank, keptCount, readyCount, served, Walked};
 
 // A walk on its way: 1 for each task that has been given a processor and 0 for the others, and how many have been given out.
-pub struct Walk {
+struct Walk {
     run: [u16; 8],
     count: u16,
 }

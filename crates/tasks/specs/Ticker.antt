@@ -2,7 +2,7 @@
 -- proofs/Ticking.antt and proofs/Free.antt show that it gives the state after a tick of Tick.antt and the mask of Masks.antt.
 use Prim.Native.Nat.{ℕ, _+_, _-_, _*_, _/_, _%_, _^_}
 use mathlib.Core.List.{List}
-use mathlib.Core.Bool.{false}
+use mathlib.Core.Bool.{Bool, false}
 use lib.Bits.{bitAnd}
 use lib.ListN.{getD}
 use lib.Dec.{eqb, ltb}
@@ -32,10 +32,18 @@ tickerOf t =
 
 -- ---- a state made ready
 
+-- the task with word w has a job with work left
+abbrev pub readyIn : ℕ → Bool
+readyIn w = ltb 0 (w % 256)
+
+-- its job keeps its processor: less work is left than `kept`
+abbrev pub keepsIn : ℕ → ℕ → Bool
+keepsIn kept w = ltb (w % 256) kept
+
 -- the place of a task with word w that is not released
 unfoldable pub oldPlace : ℕ → ℕ → ℕ → ℕ → ℕ
 oldPlace counts kept base w =
-    pick (ltb 0 (w % 256)) (pick (ltb (w % 256) kept) 0 ((bitAnd (w / 256) counts * 8 + base) % 65536)) 65535
+    pick (readyIn w) (pick (keepsIn kept w) 0 ((bitAnd (w / 256) counts * 8 + base) % 65536)) 65535
 
 -- its word after the tick, but for its run
 unfoldable pub oldWord : ℕ → ℕ

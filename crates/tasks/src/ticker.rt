@@ -6,7 +6,7 @@ ghost use lib.Dec.{ltb};
 ghost use Rattle.lists.specs.Lists.{eight, pick};
 ghost use Rattle.tasks.specs.State.{notPreempted};
 ghost use Rattle.tasks.specs.Places.{shifted};
-ghost use Rattle.tasks.specs.Ticker.{tickerOf, oldPlace, oldWord, preparedBy, selected, lowered, tickedBy, freeBy};
+ghost use Rattle.tasks.specs.Ticker.{tickerOf, readyIn, keepsIn, oldPlace, oldWord, preparedBy, selected, lowered, tickedBy, freeBy};
 use crate::places::shifted;
 use crate::state::State;
 use crate::table::Table;
@@ -40,13 +40,25 @@ fn less(x: u16, y: u16) -> u16
     if y < x { x - y } else { 0 }
 }
 
+// Whether the task of the word has a job with work left.
+fn ready_in(w: u16) -> bool
+    ensures { λ r. ⌜ r ≡ readyIn w ⌝ }
+{
+    0 < w % 256
+}
+
+// Whether the job of the word, if there is one, keeps its processor: it has less work left than `kept`.
+fn keeps_in(kept: u16, w: u16) -> bool
+    ensures { λ r. ⌜ r ≡ keepsIn kept w ⌝ }
+{
+    w % 256 < kept
+}
+
 fn old_place(counts: u16, kept: u16, base: u16, w: u16) -> u16
     ensures { λ r. ⌜ r ≡ oldPlace counts kept base w ⌝ }
 {
-    let c = w % 256;
-    let p = w / 256;
-    let place = std::num::wrapping_add_u16((p & counts) * 8, base);
-    either16(0 < c, either16(c < kept, 0, place), 65535)
+    let place = std::num::wrapping_add_u16((w / 256 & counts) * 8, base);
+    either16(ready_in(w), either16(keeps_in(kept, w), 0, place), 65535)
 }
 
 fn old_word(w: u16) -> u16
