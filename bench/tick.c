@@ -1,6 +1,6 @@
 /* A native tick of the same rules, unproved, beside the proved one: both run on the same tables, states and masks, must
    give the same sum, and are timed in turn. Prints the nanoseconds of each and the ratio for every policy and number of
-   processors, six tasks. */
+   processors, six tasks. With -DBEFORE an earlier proved one, under the name before_ticks, runs in turn with them. */
 #include <stdint.h>
 #include <stdio.h>
 #include <stdlib.h>
@@ -12,6 +12,9 @@ typedef struct { uint8_t c[8], p[8]; } state;
 
 /* The proved library: crates/ticks. */
 uint64_t ticks(const uint8_t *table, size_t table_len, const uint8_t *states, size_t states_len, const uint8_t *masks, size_t masks_len);
+#ifdef BEFORE
+uint64_t before_ticks(const uint8_t *table, size_t table_len, const uint8_t *states, size_t states_len, const uint8_t *masks, size_t masks_len);
+#endif
 
 static int time_left(const table *t, const state *s, int i) { return t->deadline[i] - (t->gap[i] - s->p[i]); }
 
@@ -107,10 +110,27 @@ static double now(void) {
     return (double)a.tv_sec * 1e9 + (double)a.tv_nsec;
 }
 
+/* The engines in turn: the proved ticks, the native ones and, where there are any, the earlier proved ones. */
+enum { NATIVE = 1,
+#ifdef BEFORE
+       ENGINES = 3
+#else
+       ENGINES = 2
+#endif
+};
+
+static uint64_t run(int engine, const uint8_t *bytes, const uint8_t *states, const uint8_t *masks) {
+    if (engine == NATIVE) return native(bytes, states, masks, PAIRS);
+#ifdef BEFORE
+    if (engine == 2) return before_ticks(bytes, 27, states, 16 * PAIRS, masks, PAIRS);
+#endif
+    return ticks(bytes, 27, states, 16 * PAIRS, masks, PAIRS);
+}
+
 int main(void) {
     static uint8_t states[16 * PAIRS], masks[PAIRS];
     static const int cores[] = {1, 2, 3, 4, 8};
-    double worst = 0;
+    double worst = 0, slower = 0;
     for (int policy = 0; policy < 4; policy++)
         for (int k = 0; k < 5; k++) {
             uint8_t bytes[27] = {(uint8_t)policy, (uint8_t)cores[k], 6};
@@ -130,25 +150,30 @@ int main(void) {
                 memcpy(states + 16 * j, &s, 16);
                 masks[j] = (uint8_t)(draw(64) & legal);
             }
-            double best[2] = {1e18, 1e18};
+            double best[ENGINES];
             volatile uint64_t sink = 0;
-            for (int try = 0; try < TRIES; try++) {
-                double a = now();
-                for (int r = 0; r < ROUNDS; r++) sink += ticks(bytes, 27, states, sizeof states, masks, PAIRS);
-                double b = now();
-                for (int r = 0; r < ROUNDS; r++) sink += native(bytes, states, masks, PAIRS);
-                double c = now();
-                if (b - a < best[0]) best[0] = b - a;
-                if (c - b < best[1]) best[1] = c - b;
+            for (int e = 0; e < ENGINES; e++) {
+                best[e] = 1e18;
+                if (run(e, bytes, states, masks) != run(NATIVE, bytes, states, masks)) {
+                    printf("policy %d m %d: the sums differ\n", policy, cores[k]);
+                    return 1;
+                }
             }
-            if (ticks(bytes, 27, states, sizeof states, masks, PAIRS) != native(bytes, states, masks, PAIRS)) {
-                printf("policy %d m %d: the sums differ\n", policy, cores[k]);
-                return 1;
-            }
+            for (int try = 0; try < TRIES; try++)
+                for (int e = 0; e < ENGINES; e++) {
+                    double a = now();
+                    for (int r = 0; r < ROUNDS; r++) sink += run(e, bytes, states, masks);
+                    double b = now();
+                    if (b - a < best[e]) best[e] = b - a;
+                }
             double each = (double)PAIRS * ROUNDS;
-            printf("policy %d m %d: proved %5.1f ns, native %5.1f ns, ratio %.2f\n", policy, cores[k], best[0] / each, best[1] / each, best[0] / best[1]);
-            if (best[0] / best[1] > worst) worst = best[0] / best[1];
+            printf("policy %d m %d: proved %5.1f ns, native %5.1f ns, ratio %.2f", policy, cores[k], best[0] / each, best[NATIVE] / each, best[0] / best[NATIVE]);
+            if (ENGINES > 2) printf("; before %5.1f ns, ratio %.2f", best[2] / each, best[0] / best[2]);
+            printf("\n");
+            if (best[0] / best[NATIVE] > worst) worst = best[0] / best[NATIVE];
+            if (ENGINES > 2 && best[0] / best[2] > slower) slower = best[0] / best[2];
         }
     printf("worst ratio %.2f\n", worst);
+    if (ENGINES > 2) printf("worst ratio to before %.2f\n", slower);
     return 0;
 }
