@@ -2,7 +2,7 @@
 use Prim.Native.Nat.{ℕ, _+_, _≤_, _<_}
 use mathlib.Core.Path.{_≡_, refl, sym, ap, ap₂, _∙_}
 use mathlib.Core.List.{List}
-use mathlib.Core.Bool.{Bool, true, false}
+use mathlib.Core.Bool.{Bool, true, false, _&&_}
 use native.Mathlib.Omega.{arith}
 use lib.Dec.{eqb, ltb}
 use lib.ListN.{getD}
@@ -26,6 +26,13 @@ unfolding tasksIn
 tasks-tested p =
     count-same (λ i. eqb (getD (eight (λ i. pick (p i) 1 0)) i 0) 1) p 8
     (λ k h. ap (λ x. eqb x 1) (eight-at 0 (λ i. pick (p i) 1 0) k h) ∙ one-test (p k))
+
+-- one that has a processor already has one in any case
+pick-fresh : (b t : Bool) → _≡_ {A = ℕ} (pick (b && eqb (pick t 1 0) 0) 1 (pick t 1 0)) (pick b 1 (pick t 1 0))
+pick-fresh true true = refl
+pick-fresh true false = refl
+pick-fresh false true = refl
+pick-fresh false false = refl
 
 some-test : (b : Bool) → ltb 0 (pick b 1 0) ≡ b
 some-test true = refl
@@ -86,14 +93,15 @@ module _ (places : List ℕ) (m : ℕ) where
 
   step-served :
       {ranks run : List ℕ} {c : ℕ} → ranks ≡ eight (rank places 8) → run ≡ served places c → c < readyCount places
-      → eight (λ i. pick (eqb (getD ranks i 0) c) 1 (getD run i 0)) ≡ served places (c + 1)
+      → eight (λ i. pick (eqb (getD ranks i 0) c && eqb (getD run i 0) 0) 1 (getD run i 0)) ≡ served places (c + 1)
   unfolding served
   step-served {ranks} {run} {c} e r l =
-      eight-same (λ i. pick (eqb (getD ranks i 0) c) 1 (getD run i 0)) (λ i. pick (taken places (c + 1) i) 1 0)
+      eight-same (λ i. pick (eqb (getD ranks i 0) c && eqb (getD run i 0) 0) 1 (getD run i 0)) (λ i. pick (taken places (c + 1) i) 1 0)
       (λ i h.
-      ap₂ (λ x y. pick (eqb x c) 1 y)
+      ap₂ (λ x y. pick (eqb x c && eqb y 0) 1 y)
       (rank-read places 8 i e h)
       (served-at places c r i h)
+      ∙ pick-fresh (eqb (rank places 8 i) c) (taken places c i)
       ∙ step-taken places c i h l)
 
   served-count : (c : ℕ) → tasksIn (served places c) ≡ count 8 (taken places c)
@@ -103,7 +111,7 @@ module _ (places : List ℕ) (m : ℕ) where
   -- LAW: a step gives a processor to one task more
   pub walk-step :
       {ranks run next : List ℕ} {c : ℕ} → ranks ≡ eight (rank places 8) → Walked places m run c → c < m → c < readyCount places
-      → next ≡ eight (λ i. pick (eqb (getD ranks i 0) c) 1 (getD run i 0)) → Walked places m next (c + 1)
+      → next ≡ eight (λ i. pick (eqb (getD ranks i 0) c && eqb (getD run i 0) 0) 1 (getD run i 0)) → Walked places m next (c + 1)
   walk-step {ranks} {run} {next} {c} e w l r n =
       let is : next ≡ served places (c + 1) = n ∙ step-served e (w .first) r in
       record {

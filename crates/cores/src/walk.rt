@@ -2,6 +2,7 @@
 ghost use mathlib.Core.Path.{_≡_};
 ghost use Prim.Native.Nat.{_+_, _<_, _≤_};
 ghost use lib.ListN.{getD};
+ghost use mathlib.Core.Bool.{_&&_};
 ghost use lib.Dec.{eqb};
 ghost use Rattle.lists.specs.Lists.{eight, pick, count};
 ghost use Rattle.cores.specs.Walk.{under, rank, keptCount, readyCount, served, Walked};
@@ -87,14 +88,14 @@ fn given(now: bool, run: u16) -> u16
     if now { 1 } else { run }
 }
 
-// The tasks chosen, with those of the rank.
+// The tasks chosen, with those of the rank that have no processor yet. (That they have none spares the compiler's vectors a loop over the ranks.)
 fn with_rank(ranks: [u16; 8], run: [u16; 8], rank: u16) -> [u16; 8]
-    ensures { λ r. ⌜ r ≡ eight (λ i. pick (eqb (getD ranks i 0) rank) 1 (getD run i 0)) ⌝ }
+    ensures { λ r. ⌜ r ≡ eight (λ i. pick (eqb (getD ranks i 0) rank && eqb (getD run i 0) 0) 1 (getD run i 0)) ⌝ }
 {
     let mut out = [0u16; 8];
     let mut i: usize = 0;
     while i < 8 {
-        out[i] = given(ranks[i] == rank, run[i]);
+        out[i] = given((ranks[i] == rank) & (run[i] == 0), run[i]);
         i += 1;
     }
     out
@@ -135,42 +136,37 @@ fn assign_rest(places: [u16; 8], m: u16, waiting: u16, walk: Walk) -> Walk
     }
 }
 
-// A walk to its end: one step after the other, while a processor is left and a task waits for it.
-fn assign_each(places: [u16; 8], ranks: [u16; 8], m: u16, start: Walk) -> [u16; 8]
-    requires { ⌜ (ranks ≡ eight (rank places 8)) × Walked places m (start .run) (start .count) ⌝ }
+// Which tasks run with m processors: 1 for each, and 0 for the others. One step after the other, while a processor is left and a task waits for it.
+pub fn assign(places: [u16; 8], m: u16) -> [u16; 8]
     ensures { λ r. ⌜ r ≡ served places m ⌝ }
 {
+    let ranks = ranks_singly(places);
     let ready = count_below(places, 65535);
-    let mut walk = start;
-    while walk.count < m {
-        if ready <= walk.count {
-            break;
-        }
+    let mut walk = assign_kept(places, m);
+    while (walk.count < m) & (walk.count < ready) {
         let next = assign_next(places, ranks, m, walk);
         walk = next;
     }
     walk.run
 }
 
-// Which tasks run with m processors: 1 for each, and 0 for the others.
-pub fn assign(places: [u16; 8], m: u16) -> [u16; 8]
-    ensures { λ r. ⌜ r ≡ served places m ⌝ }
-{
-    let walk = assign_kept(places, m);
-    assign_each(places, ranks_singly(places), m, walk)
-}
-
-// The same for many ticks. Where there is a processor for each ready task one step gives out all; else all tasks are ranked at once. It
-// has one caller: the compiler keeps a function of this size out of line where it has two.
+// The same for many ticks. Where there is a processor for each ready task one step gives out all; else all tasks are ranked at once, and
+// there are more of them than steps. It has one caller: the compiler keeps a function of this size out of line where it has two.
 pub fn assign_quickly(places: [u16; 8], m: u16) -> [u16; 8]
     ensures { λ r. ⌜ r ≡ served places m ⌝ }
 {
-    let walk = assign_kept(places, m);
-    let count = walk.count;
+    let start = assign_kept(places, m);
+    let count = start.count;
     let waiting = count_below(places, 65535) - count;
     if count + waiting <= m {
-        let all = assign_rest(places, m, waiting, walk);
+        let all = assign_rest(places, m, waiting, start);
         return all.run;
     }
-    assign_each(places, ranks(places), m, walk)
+    let ranks = ranks(places);
+    let mut walk = start;
+    while walk.count < m {
+        let next = assign_next(places, ranks, m, walk);
+        walk = next;
+    }
+    walk.run
 }

@@ -20,6 +20,10 @@ pub and-right : (a b : Bool) → a && b ≡ true → b ≡ true
 and-right true b e = e
 and-right false b e = clash e refl
 
+-- where a holds and a && b does not, b does not
+pub and-no : {a b : Bool} → a ≡ true → a && b ≡ false → b ≡ false
+and-no e h = rw e at h
+
 pub both : {a b : Bool} → a ≡ true → b ≡ true → a && b ≡ true
 both e h = rw (e, h)
 

@@ -1,5 +1,6 @@
 use Prim.Native.Nat.{_≤_, _-_}
 use mathlib.Core.Path.{refl}
+use mathlib.Core.Bool.{_&&_}
 use lib.Dec.{eqb}
 use lib.ListN.{getD}
 use Rattle.lists.specs.Lists.{pick}
@@ -10,7 +11,7 @@ use Rattle.cores.proofs.walk.with_rank.Statement.{statement}
 use Rattle.cores.proofs.walk.with_rank.Tie as tie
 
 abbrev Inv-loop : tie.InvT-loop
-Inv-loop rank ranks run out₀ i₀ out i = (i ≤ 8) × Filled 0 (λ i. pick (eqb (getD ranks i 0) rank) 1 (getD run i 0)) out i
+Inv-loop rank ranks run out₀ i₀ out i = (i ≤ 8) × Filled 0 (λ i. pick (eqb (getD ranks i 0) rank && eqb (getD run i 0) 0) 1 (getD run i 0)) out i
 
 abbrev μ-loop : tie.MeasureT-loop
 μ-loop rank ranks run out₀ i₀ out i = 8 - i
@@ -29,6 +30,12 @@ mul-given-2 c = search needs
 
 array-read-given-2 : tie.Need-array-read-given-2 Inv-loop μ-loop
 array-read-given-2 c = search needs
+
+mul-given-3 : tie.Need-mul-given-3 Inv-loop μ-loop
+mul-given-3 c = search needs
+
+array-read-given-3 : tie.Need-array-read-given-3 Inv-loop μ-loop
+array-read-given-3 c = search needs
 
 given-requires : tie.Need-given-requires Inv-loop μ-loop
 given-requires c κs = search needs
@@ -64,6 +71,8 @@ with-rank-spec =
     array-read-given
     mul-given-2
     array-read-given-2
+    mul-given-3
+    array-read-given-3
     given-requires
     mul-out
     array-write-out
