@@ -88,7 +88,8 @@ fn given(now: bool, run: u16) -> u16
     if now { 1 } else { run }
 }
 
-// The tasks chosen, with those of the rank that have no processor yet. (That they have none spares the compiler's vectors a loop over the ranks.)
+// The tasks chosen, and with them those of the rank that have no processor yet. Without that question the compiler makes vectors of several
+// steps of a walk, which costs more than its few steps do.
 fn with_rank(ranks: [u16; 8], run: [u16; 8], rank: u16) -> [u16; 8]
     ensures { λ r. ⌜ r ≡ eight (λ i. pick (eqb (getD ranks i 0) rank && eqb (getD run i 0) 0) 1 (getD run i 0)) ⌝ }
 {
