@@ -1,5 +1,5 @@
 -- The ranks of the places, and which tasks are chosen with c processors. Assumes nothing.
-use Prim.Native.Nat.{ℕ, suc, _+_, _≤_, _<_}
+use Prim.Native.Nat.{ℕ, _+_, _≤_, _<_}
 use mathlib.Core.Path.{_≡_, refl, sym, ap, _∙_}
 use mathlib.Core.List.{List}
 use mathlib.Core.Bool.{Bool, true, false, not, _&&_, _||_}
@@ -13,7 +13,7 @@ use mir.Val.{Fits, boolByte}
 use borrow.Author.Tests.{eq-eqb, ne-eqb, ltb-true, ltb-false, lt-ltb, le-ltb}
 use Rattle.lists.specs.Lists.{eight, pick, count}
 use Rattle.lists.proofs.Bools.{by-bool, clash, and-left, and-right, both, or-right, not-yes, not-no}
-use Rattle.lists.proofs.Counts.{count-mono, count-same, count-less, count-one-more, Least, least-of}
+use Rattle.lists.proofs.Counts.{count-mono, count-same, count-less, count-one-more, least-of}
 use Rattle.lists.proofs.Fill.{eight-at}
 use Rattle.lists.proofs.Turns.{count-turn, count-room}
 use Rattle.cores.specs.Walk.{under, rank, keptCount, readyCount, taken, Apart}

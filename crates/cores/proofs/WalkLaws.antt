@@ -11,7 +11,7 @@ use Rattle.lists.specs.Lists.{eight, pick, count}
 use Rattle.lists.proofs.Bools.{by-bool}
 use Rattle.lists.proofs.Counts.{count-same}
 use Rattle.lists.proofs.Fill.{eight-at, eight-same}
-use Rattle.cores.specs.Walk.{under, rank, keptCount, readyCount, taken, served, tasksIn, mostOf, Apart, Walked}
+use Rattle.cores.specs.Walk.{under, rank, keptCount, readyCount, taken, served, tasksIn, mostOf, Walked}
 use Rattle.cores.proofs.RankLaws.{rank-read, few-taken, all-taken, step-taken, number-taken}
 
 -- ---- tests as numbers

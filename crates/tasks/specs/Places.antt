@@ -1,11 +1,10 @@
 -- The choice by one number a task, its place: the smaller goes first. No part of the paper's model: the contracts of
 -- private functions in src/places.rt and src/ticker.rt cite it, and proofs/Place.antt shows that it gives the choice of Tick.antt.
 use Prim.Native.Nat.{ℕ, _+_, _-_, _*_}
-use mathlib.Core.List.{List}
-use mathlib.Core.Bool.{Bool, _&&_, _||_}
+use mathlib.Core.Bool.{Bool}
 use lib.ListN.{getD}
-use lib.Dec.{ltb, eqb}
-use Rattle.lists.specs.Lists.{pick, count}
+use lib.Dec.{ltb}
+use Rattle.lists.specs.Lists.{pick}
 use Rattle.tasks.specs.State.{ready, keeps}
 use Rattle.tasks.specs.declared.state.State.{State}
 use Rattle.tasks.specs.declared.table.Table.{Table}

@@ -1,5 +1,4 @@
 use Rattle.cores.proofs.WalkLaws.{walk-start}
-use native.Mathlib.Omega.{arith}
 use borrow.Author.Needs.{needs}
 use Rattle.cores.proofs.walk.assign_kept.Statement.{statement}
 use Rattle.cores.proofs.walk.assign_kept.Tie as tie
