@@ -22,7 +22,7 @@ use Rattle.lists.proofs.Counts.{count-same, count-zero, any-false, none-any}
 use Rattle.tasks.proofs.InWords.{work-word, gap-word}
 use Rattle.tasks.proofs.Late.{late-yes}
 use Rattle.tasks.proofs.Proper.{Fine, proper-task, proper-kept, is-proper}
-use Rattle.tasks.proofs.Signed.{slack-sub, ltZ-sub, sub-ge}
+use Rattle.jobs.proofs.Signed.{slack-sub, ltZ-sub, sub-ge}
 use Rattle.tasks.proofs.Tables.{valid}
 use Rattle.closed.specs.Keeping.{workAbove, gapAbove, exceeds}
 

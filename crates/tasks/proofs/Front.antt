@@ -8,6 +8,7 @@ use lib.ListN.{length, getD, take}
 use lib.Seq.{getD-take, length-take-le, take-all}
 use borrow.Author.Tests.{lt-ltb, ltb-true, ltb-false}
 use Rattle.tasks.specs.Number.{above, numberIn, numberAt}
+use Rattle.tasks.specs.Table.{lastPolicy}
 use Rattle.tasks.specs.Sheet.{emptyTable, acceptedAs, fieldAt, andThen, taskOf, taskThen, taskAt, withTask, afterTask, tasksFrom, fromTasks, fromPolicy, sheetOf}
 use Rattle.tasks.specs.declared.number.Number.{Number}
 use Rattle.tasks.specs.declared.number.Number.the-variants.{Value, Refused}
@@ -139,7 +140,7 @@ module _ (n : ℕ) (s : List ℕ) where
   policy-front : (at : ℕ) → at + 54 < n → fromPolicy (take n s) at ≡ fromPolicy s at
   unfolding fromPolicy fromTasks
   policy-front at h =
-      field-front at 0 3 4 _ _ (omega arith)
+      field-front at 0 lastPolicy 4 _ _ (omega arith)
       (λ policy a x y.
       field-front a 1 8 5 _ _ (omega arith)
       (λ m b z w.

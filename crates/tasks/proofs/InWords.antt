@@ -8,7 +8,8 @@ use lib.Seq.{ext-getD}
 use mir.Syntax.{w8, w16}
 use mir.Val.{Fits}
 use Rattle.lists.specs.Lists.{eight}
-use Rattle.tasks.specs.State.{lateJob, late}
+use Rattle.jobs.specs.Job.{lateJob}
+use Rattle.tasks.specs.State.{late}
 use Rattle.tasks.specs.Words.{wordsOf, stateOf}
 use Rattle.tasks.specs.declared.state.State.{State}
 use Rattle.tasks.specs.declared.table.Table.{Table}

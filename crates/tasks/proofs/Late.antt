@@ -7,13 +7,14 @@ use lib.Dec.{ltb}
 use lib.ListN.{getD}
 use lib.IntN.{ℤ, negsuc}
 use borrow.Author.Tests.{ltb-true, ltb-false, lt-ltb}
+use Rattle.jobs.specs.Job.{slack}
 use Rattle.tasks.specs.Table.{tableFault}
-use Rattle.tasks.specs.State.{slack, ready, late, improper}
+use Rattle.tasks.specs.State.{ready, late, improper}
 use Rattle.tasks.specs.Tick.{bit, released, runs, after}
 use Rattle.tasks.specs.declared.state.State.{State}
 use Rattle.tasks.specs.declared.table.Table.{Table}
 use Rattle.lists.proofs.Bools.{by-bool, clash, and-left, and-right, both}
-use Rattle.tasks.proofs.Signed.{sub-lt, slack-sub, slack-late}
+use Rattle.jobs.proofs.Signed.{sub-lt, slack-sub, slack-late}
 use Rattle.tasks.proofs.Tables.{ordered}
 use Rattle.tasks.proofs.After.{work-on, work-off, gap-on, gap-off, work-ran, work-waited, gap-after}
 use Rattle.tasks.proofs.Proper.{proper-task}

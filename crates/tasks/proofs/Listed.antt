@@ -7,7 +7,7 @@ use native.Mathlib.Omega.{arith}
 use lib.Dec.{ltb}
 use lib.ListN.{length, getD}
 use Rattle.lists.specs.Lists.{pick}
-use Rattle.tasks.specs.Table.{breaks}
+use Rattle.tasks.specs.Table.{lastPolicy, breaks}
 use Rattle.tasks.specs.Number.{above, numberIn, numberAt}
 use Rattle.tasks.specs.Sheet.{ruled, fieldAt, andThen, taskOf, taskThen, taskAt, withTask, afterTask, tasksFrom, fromTasks, fromPolicy, sheetOf, emptyTable, acceptedAs}
 use Rattle.tasks.specs.declared.table.Table.{Table}
@@ -96,7 +96,7 @@ sheet-listed : (s : List ℕ) → ReadingListed (sheetOf s .answer)
 unfolding sheetOf fromPolicy fromTasks
 sheet-listed s =
     then-listed (fieldAt s 0 3 3 3) _ (field-listed s 0 3 3 3 (omega arith, omega arith))
-    (λ fields a. then-listed (fieldAt s a 0 3 4) _ (field-listed s a 0 3 4 (omega arith, omega arith))
+    (λ fields a. then-listed (fieldAt s a 0 lastPolicy 4) _ (field-listed s a 0 lastPolicy 4 (omega arith, omega arith))
     (λ policy b. then-listed (fieldAt s b 1 8 5) _ (field-listed s b 1 8 5 (omega arith, omega arith))
     (λ m c. then-listed (fieldAt s c 1 8 6) _ (field-listed s c 1 8 6 (omega arith, omega arith))
     (λ n d. tasks-listed n 0 (emptyTable policy m n) s d))))

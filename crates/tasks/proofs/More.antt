@@ -34,7 +34,7 @@ module _ (t : Table) (a b : State) where
 
   same-key : (i : ℕ) → Same a b i → key t a i ≡ key t b i
   unfolding key
-  same-key i e = rw (e .p)
+  same-key i e = rw (e .c, e .p)
 
   same-before : (j i : ℕ) → Same a b j → Same a b i → before t a j i ≡ before t b j i
   unfolding before

@@ -17,7 +17,7 @@ use Rattle.tasks.specs.declared.state.State.{State}
 use Rattle.tasks.specs.declared.table.Table.{Table}
 use Rattle.lists.proofs.Bools.{by-bool, both, or-left, or-right}
 use Rattle.lists.proofs.Counts.{some-any, any-some}
-use Rattle.tasks.proofs.Signed.{slack-sub, ltZ-sub, sub-ge}
+use Rattle.jobs.proofs.Signed.{slack-sub, ltZ-sub, sub-ge}
 use Rattle.tasks.proofs.Legal.{legal-bit}
 use Rattle.tasks.proofs.After.{work-on, work-off, gap-on, gap-off}
 use Rattle.tasks.proofs.Late.{late-waited}

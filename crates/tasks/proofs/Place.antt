@@ -6,21 +6,23 @@ use native.Mathlib.Omega.{arith}
 use native.Mathlib.Nat.{mul-le-mul-right}
 use lib.Dec.{ltb}
 use lib.ListN.{getD}
-use lib.Signed.{ltZ}
+use lib.Signed.{ltZ, mag}
 use mir.Syntax.{w8}
 use mir.Val.{Fits}
 use borrow.Author.Tests.{ltb-true, ltb-false, lt-ltb, le-ltb}
 use Rattle.lists.specs.Lists.{eight, count}
 use Rattle.tasks.specs.State.{notPreempted, ready, started, keeps}
 use Rattle.tasks.specs.Tick.{key, before, ahead, runs, chosen}
+use Rattle.jobs.specs.Place.{raised}
+use Rattle.jobs.proofs.Signed.{by-lt, ltb-same}
+use Rattle.jobs.proofs.Keys.{key-range, raised-less, raised-range}
 use Rattle.cores.specs.Walk.{under, rank, keptCount, taken, Apart}
-use Rattle.tasks.specs.Places.{shiftedAt, place}
+use Rattle.tasks.specs.Places.{place}
 use Rattle.tasks.specs.declared.state.State.{State}
 use Rattle.tasks.specs.declared.table.Table.{Table}
 use Rattle.lists.proofs.Fill.{eight-at, eight-same}
 use Rattle.lists.proofs.Bools.{by-bool}
 use Rattle.lists.proofs.Counts.{count-same}
-use Rattle.tasks.proofs.Signed.{by-lt, ltb-same, time-left-less}
 
 -- ---- a field put below another
 
@@ -41,34 +43,31 @@ pack-less w a b x y f g =
     (λ k. rw (le-ltb a b h, lt-ltb b a k) (le-ltb (a * w + x) (b * w + y) (omega (arith, high w b a y k g))))
     (λ k. let q : a ≡ b = omega arith in rw (q, le-ltb b b (omega arith)) (ltb-same (b * w + x) (b * w + y) x y (λ z. omega arith) (λ z. omega arith))))
 
--- ---- the key, moved up so that it is a natural number
+-- ---- the key, raised to a natural number
 
 -- the numbers of a task are bytes
 pub record Bytes (t : Table) (s : State) (i : ℕ) : Type 0 where
   pub deadline : Fits w8 (getD (t .deadline) i 0)
   pub gap : Fits w8 (getD (t .gap) i 0)
+  pub c : Fits w8 (getD (s .c) i 0)
   pub p : Fits w8 (getD (s .p) i 0)
 
-shift-less : (d g p e h q : ℕ) → Fits w8 g → Fits w8 h → ltb (d + p + h) (e + q + g) ≡ ltb (256 + d + p - g) (256 + e + q - h)
-shift-less d g p e h q a b = ltb-same (d + p + h) (e + q + g) (256 + d + p - g) (256 + e + q - h) (λ z. omega arith) (λ z. omega arith)
-
 module _ (t : Table) (s : State) where
-  pub key-less : (j i : ℕ) → Bytes t s j → Bytes t s i → ltZ (key t s j) (key t s i) ≡ ltb (shiftedAt t s j) (shiftedAt t s i)
-  unfolding key shiftedAt
-  key-less j i a b =
-      by-bool (ltb (t .policy) 2) (λ e. rw e) (λ e.
-      rw e
-      (time-left-less (getD (t .deadline) j 0) (getD (t .gap) j 0) (getD (s .p) j 0) (getD (t .deadline) i 0) (getD (t .gap) i 0) (getD (s .p) i 0)
-      ∙ shift-less (getD (t .deadline) j 0) (getD (t .gap) j 0) (getD (s .p) j 0) (getD (t .deadline) i 0) (getD (t .gap) i 0) (getD (s .p) i 0) (a .gap) (b .gap)))
+  key-within : (i : ℕ) → Bytes t s i → mag (key t s i) < 511
+  unfolding key
+  key-within i b =
+      key-range (t .policy) (getD (t .deadline) i 0) (getD (t .gap) i 0) (getD (s .p) i 0) (getD (s .c) i 0) (b .deadline) (b .gap) (b .p) (b .c)
 
-  pub shifted-range : (i : ℕ) → Bytes t s i → (0 < shiftedAt t s i) × (shiftedAt t s i < 1024)
-  unfolding shiftedAt
-  shifted-range i b = by-bool (ltb (t .policy) 2) (λ e. rw e (omega arith)) (λ e. rw e (omega (arith, b .deadline, b .gap, b .p)))
+  key-less : (j i : ℕ) → Bytes t s j → Bytes t s i → ltZ (key t s j) (key t s i) ≡ ltb (raised (key t s j)) (raised (key t s i))
+  key-less j i a b = raised-less (key t s j) (key t s i) (key-within j a) (key-within i b)
 
-  before-place : (j i : ℕ) → j < 8 → i < 8 → Bytes t s j → Bytes t s i → ltb (shiftedAt t s j * 8 + j) (shiftedAt t s i * 8 + i) ≡ before t s j i
+  within : (i : ℕ) → Bytes t s i → (0 < raised (key t s i)) × (raised (key t s i) < 1024)
+  within i b = raised-range (key t s i) (key-within i b)
+
+  before-place : (j i : ℕ) → j < 8 → i < 8 → Bytes t s j → Bytes t s i → ltb (raised (key t s j) * 8 + j) (raised (key t s i) * 8 + i) ≡ before t s j i
   unfolding before
   before-place j i h k a b =
-      pack-less 8 (shiftedAt t s j) (shiftedAt t s i) j i h k ∙ rw (key-less j i a b, key-less i j b a)
+      pack-less 8 (raised (key t s j)) (raised (key t s i)) j i h k ∙ rw (key-less j i a b, key-less i j b a)
 
   -- ---- the places
 
@@ -80,7 +79,7 @@ module _ (t : Table) (s : State) where
   unfolding place
   place-kept i r e = rw (r, e)
 
-  place-free : (i : ℕ) → ready s i ≡ true → keeps t s i ≡ false → place t s i ≡ shiftedAt t s i * 8 + i
+  place-free : (i : ℕ) → ready s i ≡ true → keeps t s i ≡ false → place t s i ≡ raised (key t s i) * 8 + i
   unfolding place
   place-free i r e = rw (r, e)
 
@@ -91,9 +90,9 @@ module _ (t : Table) (s : State) where
       (by-bool (ready s j)
       (λ y.
       by-bool (keeps t s j)
-      (λ z. rw (place-kept j y z, y, z) (lt-ltb 0 (shiftedAt t s i * 8 + i) (omega (arith, shifted-range i b .0))))
+      (λ z. rw (place-kept j y z, y, z) (lt-ltb 0 (raised (key t s i) * 8 + i) (omega (arith, within i b .0))))
       (λ z. rw (place-free j y z, y, z) (before-place j i h k a b)))
-      (λ y. rw (place-none j y, y) (le-ltb 65535 (shiftedAt t s i * 8 + i) (omega (arith, shifted-range i b .1)))))
+      (λ y. rw (place-none j y, y) (le-ltb 65535 (raised (key t s i) * 8 + i) (omega (arith, within i b .1)))))
 
   -- ---- the choice
 
@@ -105,10 +104,10 @@ module _ (t : Table) (s : State) where
         (λ j k. ap₂ ltb (eight-at 0 (place t s) j k) (eight-at 0 (place t s) i h) ∙ place-ahead j i k h (bytes j k) (bytes i h) r e)
 
     some : (i : ℕ) → i < 8 → ready s i ≡ true → keeps t s i ≡ false → ltb (place t s i) 65535 ≡ true
-    some i h r e = rw (place-free i r e) (lt-ltb (shiftedAt t s i * 8 + i) 65535 (omega (arith, shifted-range i (bytes i h) .1)))
+    some i h r e = rw (place-free i r e) (lt-ltb (raised (key t s i) * 8 + i) 65535 (omega (arith, within i (bytes i h) .1)))
 
     none : (i : ℕ) → i < 8 → ready s i ≡ true → keeps t s i ≡ false → ltb (place t s i) 1 ≡ false
-    none i h r e = rw (place-free i r e) (le-ltb (shiftedAt t s i * 8 + i) 1 (omega (arith, shifted-range i (bytes i h) .0)))
+    none i h r e = rw (place-free i r e) (le-ltb (raised (key t s i) * 8 + i) 1 (omega (arith, within i (bytes i h) .0)))
 
     pub taken-runs : (i : ℕ) → i < 8 → taken (eight (place t s)) (t .m) i ≡ runs t s i
     unfolding taken under runs
@@ -130,7 +129,7 @@ module _ (t : Table) (s : State) where
     -- ---- what a walk needs of the places
 
     -- a place above 0 and below 65535 is that of a job that waits: its key and below it the task's number
-    waits : (i : ℕ) → i < 8 → 0 < place t s i → place t s i < 65535 → place t s i ≡ shiftedAt t s i * 8 + i
+    waits : (i : ℕ) → i < 8 → 0 < place t s i → place t s i < 65535 → place t s i ≡ raised (key t s i) * 8 + i
     waits i h a b =
         by-bool (ready s i)
         (λ r. by-bool (keeps t s i) (λ e. absurd (omega (arith, place-kept i r e))) (λ e. place-free i r e))

@@ -10,7 +10,7 @@ use lib.ListN.{length, getD, set, drop, length-append, length-drop, length-set, 
 use lib.Seq.{drop-drop, drop-append-seam, getD-set-same, getD-set-other, ext-getD}
 use borrow.Author.Tests.{lt-ltb, le-ltb, ltb-true, ltb-false}
 use Rattle.lists.specs.Lists.{eight, pick}
-use Rattle.tasks.specs.Table.{breaks, tableFault}
+use Rattle.tasks.specs.Table.{lastPolicy, breaks, tableFault}
 use Rattle.tasks.specs.Number.{numberBytes, numberAt}
 use Rattle.tasks.specs.Sheet.{emptyTable, refusedWith, acceptedAs, fieldAt, andThen, taskOf, taskThen, taskAt, withTask, afterTask, tasksFrom, fromTasks, fromPolicy, sheetOf, taskBytes, tasksBytes, sheetBytes}
 use Rattle.tasks.specs.declared.number.Number.{Number}
@@ -237,7 +237,7 @@ pub record Accepted (s : List ℕ) (t : Table) : Type 0 where
 
 -- the numbers before the tasks, and the tasks
 whole :
-    (s : List ℕ) (t : Table) (a policy b m c n d : ℕ) → Stands s 0 3 a → policy ≤ 3 → Stands s a policy b → (1 ≤ m) × (m ≤ 8) → Stands s b m c → (1 ≤ n) × (n ≤ 8) → Stands s c n d
+    (s : List ℕ) (t : Table) (a policy b m c n d : ℕ) → Stands s 0 3 a → policy ≤ lastPolicy → Stands s a policy b → (1 ≤ m) × (m ≤ 8) → Stands s b m c → (1 ≤ n) × (n ≤ 8) → Stands s c n d
     → TasksRead n 0 (emptyTable policy m n) t s d → Accepted s t
 unfolding sheetBytes
 whole s t a policy b m c n d x p y q z r w tasks =
@@ -270,11 +270,11 @@ module _ (s : List ℕ) (byte : (i : ℕ) → getD s i 0 < 256) where
   unfolding sheetOf fromPolicy fromTasks
   accepted t e =
       let a = passed (fieldAt s 0 3 3 3) (λ fields. fromPolicy s) t e in
-      let b = passed (fieldAt s (a .next) 0 3 4) (λ policy b. andThen (fieldAt s b 1 8 5) (λ m c. andThen (fieldAt s c 1 8 6) (λ n d. fromTasks s policy m n d))) t (a .then) in
+      let b = passed (fieldAt s (a .next) 0 lastPolicy 4) (λ policy b. andThen (fieldAt s b 1 8 5) (λ m c. andThen (fieldAt s c 1 8 6) (λ n d. fromTasks s policy m n d))) t (a .then) in
       let c = passed (fieldAt s (b .next) 1 8 5) (λ m c. andThen (fieldAt s c 1 8 6) (λ n d. fromTasks s (b .v) m n d)) t (b .then) in
       let d = passed (fieldAt s (c .next) 1 8 6) (λ n d. fromTasks s (b .v) (c .v) n d) t (c .then) in
       let A = field-read s 0 3 3 3 {v = a .v} {next = a .next} (a .is) in
-      let B = field-read s (a .next) 0 3 4 {v = b .v} {next = b .next} (b .is) in
+      let B = field-read s (a .next) 0 lastPolicy 4 {v = b .v} {next = b .next} (b .is) in
       let C = field-read s (b .next) 1 8 5 {v = c .v} {next = c .next} (c .is) in
       let D = field-read s (c .next) 1 8 6 {v = d .v} {next = d .next} (d .is) in
       let three-is : a .v ≡ 3 = omega (arith, A .from, A .upto) in
@@ -436,5 +436,5 @@ write-read t e f =
     let e₄ : drop (0 + length (numberBytes 3) + length (numberBytes (t .policy)) + length (numberBytes (t .m)) + length (numberBytes (t .n))) s ≡ W =
     after-part s (0 + length (numberBytes 3) + length (numberBytes (t .policy)) + length (numberBytes (t .m))) (numberBytes (t .n)) W e₃ in
     rw
-    (field-stands s 0 3 3 3 3 X (omega arith) (omega arith) (omega arith) refl, field-stands s (0 + length (numberBytes 3)) 0 3 4 (t .policy) Y (omega arith) (v .policy) (omega arith) e₁, field-stands s (0 + length (numberBytes 3) + length (numberBytes (t .policy))) 1 8 5 (t .m) Z (v .processors .0) (v .processors .1) (omega arith) e₂, field-stands s (0 + length (numberBytes 3) + length (numberBytes (t .policy)) + length (numberBytes (t .m))) 1 8 6 (t .n) W (v .tasks .0) (v .tasks .1) (omega arith) e₃)
+    (field-stands s 0 3 3 3 3 X (omega arith) (omega arith) (omega arith) refl, field-stands s (0 + length (numberBytes 3)) 0 lastPolicy 4 (t .policy) Y (omega arith) (v .policy) (omega arith) e₁, field-stands s (0 + length (numberBytes 3) + length (numberBytes (t .policy))) 1 8 5 (t .m) Z (v .processors .0) (v .processors .1) (omega arith) e₂, field-stands s (0 + length (numberBytes 3) + length (numberBytes (t .policy)) + length (numberBytes (t .m))) 1 8 6 (t .n) W (v .tasks .0) (v .tasks .1) (omega arith) e₃)
     (tasks-written t e v s (t .n) 0 (0 + length (numberBytes 3) + length (numberBytes (t .policy)) + length (numberBytes (t .m)) + length (numberBytes (t .n))) (omega arith) e₄)

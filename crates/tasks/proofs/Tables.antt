@@ -7,7 +7,7 @@ use lib.Dec.{ltb}
 use lib.ListN.{getD}
 use borrow.Author.Tests.{lt-ltb, le-ltb, ltb-true, ltb-false}
 use Rattle.lists.specs.Lists.{pick, any}
-use Rattle.tasks.specs.Table.{outside, breaks, faultAt, tableFault}
+use Rattle.tasks.specs.Table.{lastPolicy, outside, breaks, faultAt, tableFault}
 use Rattle.tasks.specs.declared.table.Table.{Table}
 use Rattle.lists.proofs.Bools.{by-bool, nor-left, nor-right}
 use Rattle.lists.proofs.Counts.{any-false, none-any}
@@ -38,7 +38,7 @@ task-fits {work} {deadline} {gap} f =
 
 -- what a valid table keeps to
 pub record Valid (t : Table) : Type 0 where
-  pub policy : t .policy ≤ 3
+  pub policy : t .policy ≤ lastPolicy
   pub processors : (1 ≤ t .m) × (t .m ≤ 8)
   pub tasks : (1 ≤ t .n) × (t .n ≤ 8)
   pub each : (i : ℕ) → i < t .n → FitTask (getD (t .work) i 0) (getD (t .deadline) i 0) (getD (t .gap) i 0)
@@ -80,13 +80,13 @@ module _ (t : Table) where
   unfolding tableFault
   valid e =
       let tasks : ℕ = pick (any 8 (faultAt t)) 7 0 in
-      let a = pick-zero (ltb 3 (t .policy)) 4 (pick (outside (t .m)) 5 (pick (outside (t .n)) 6 tasks)) (omega arith) e in
+      let a = pick-zero (ltb lastPolicy (t .policy)) 4 (pick (outside (t .m)) 5 (pick (outside (t .n)) 6 tasks)) (omega arith) e in
       let b = pick-zero (outside (t .m)) 5 (pick (outside (t .n)) 6 tasks) (omega arith) (a .1) in
       let c = pick-zero (outside (t .n)) 6 tasks (omega arith) (b .1) in
       let d = pick-zero (any 8 (faultAt t)) 7 0 (omega arith) (c .1) in
       let n = inside (t .n) (c .0) in
       record {
-        policy = ltb-false 3 (t .policy) (a .0);
+        policy = ltb-false lastPolicy (t .policy) (a .0);
         processors = inside (t .m) (b .0);
         tasks = n;
         each = λ i h. each-fits i (any-false (faultAt t) 8 i (d .0) (omega (arith, n .1))) h;
@@ -107,7 +107,7 @@ module _ (t : Table) where
   unfolding tableFault
   not-refused v =
       rw
-      (le-ltb 3 (t .policy) (v .policy), inside-no (t .m) (v .processors .0) (v .processors .1), inside-no (t .n) (v .tasks .0) (v .tasks .1), none-any (faultAt t) 8 (fault-none v))
+      (le-ltb lastPolicy (t .policy) (v .policy), inside-no (t .m) (v .processors .0) (v .processors .1), inside-no (t .n) (v .tasks .0) (v .tasks .1), none-any (faultAt t) 8 (fault-none v))
 
   -- C ≤ D ≤ P for every entry, also after the nth, where all are 0
   pub ordered : tableFault t ≡ 0 → (i : ℕ) → i < 8 → Ordered t i

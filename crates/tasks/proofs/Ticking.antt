@@ -9,14 +9,17 @@ use lib.Dec.{eqb, ltb}
 use lib.ListN.{getD}
 use mir.Syntax.{w8, w16}
 use mir.Val.{Fits}
-use borrow.Author.Tests.{le-ltb, ltb-true}
+use borrow.Author.Tests.{le-ltb, ltb-true, ltb-false}
 use Rattle.lists.specs.Lists.{eight, pick}
 use Rattle.tasks.specs.State.{start, notPreempted, ready, started, keeps}
-use Rattle.tasks.specs.Tick.{bit, released, runs, chosen, ranAt, fallen, ran, after}
+use Rattle.tasks.specs.Tick.{bit, released, key, runs, chosen, ranAt, fallen, ran, after}
+use Rattle.jobs.specs.Job.{keyOf}
+use Rattle.jobs.specs.Place.{raised}
+use Rattle.jobs.proofs.Keys.{raised-key}
 use Rattle.cores.specs.Walk.{taken}
-use Rattle.tasks.specs.Places.{shifted, shiftedAt, place}
+use Rattle.tasks.specs.Places.{place}
 use Rattle.tasks.specs.Words.{wordsOf, stateOf}
-use Rattle.tasks.specs.Ticker.{tickerOf, oldPlace, oldWord, preparedBy, selected, lowered, tickedBy}
+use Rattle.tasks.specs.Ticker.{baseAt, tickerOf, oldPlace, oldWord, preparedBy, selected, lowered, tickedBy}
 use Rattle.tasks.specs.declared.state.State.{State}
 use Rattle.tasks.specs.declared.table.Table.{Table}
 use Rattle.lists.proofs.Bools.{by-bool, and-left}
@@ -44,27 +47,38 @@ full (suc (suc (suc (suc (suc (suc (suc (suc i)))))))) h = absurd (omega arith)
 
 -- a place is made of the two numbers of its task
 place-same : (t : Table) (s u : State) (i : ℕ) → getD (s .c) i 0 ≡ getD (u .c) i 0 → getD (s .p) i 0 ≡ getD (u .p) i 0 → place t s i ≡ place t u i
-unfolding place keeps started shiftedAt
+unfolding place keeps started key
 place-same t s u i e h = rw (e, h)
 
 stays-test : (stays : Bool) (c work : ℕ) → ltb c (pick stays work 0) ≡ stays && ltb c work
 stays-test true c work = refl
 stays-test false c work = le-ltb c 0 (omega arith)
 
-ticks-all : (p : ℕ) → p < 256 → bitAnd p 255 ≡ p
-ticks-all p h = and-mask p 8 ∙ omega arith
+bits-all : (x : ℕ) → Fits w8 x → bitAnd x 255 ≡ x
+bits-all x h = and-mask x 8 ∙ omega arith
 
+-- what the two numbers of a task add to its base gives its key
 key-old :
-    (fixed : Bool) (d g p i : ℕ) → i < 8 → Fits w8 d → Fits w8 g → p < 256
-    → (bitAnd p (pick fixed 0 255) * 8 + (shifted fixed d g 0 * 8 + i)) % 65536 ≡ shifted fixed d g p * 8 + i
-key-old true d g p i h a b c = rw (and-zero-r p) (omega arith)
-key-old false d g p i h a b c = rw (ticks-all p c) (omega arith)
+    (policy d g p c i : ℕ) → i < 8 → Fits w8 d → Fits w8 g → Fits w8 p → Fits w8 c
+    → ((256 + bitAnd p (pick (ltb policy 2) 0 255) - bitAnd c (pick (ltb policy 4) 0 255)) * 8 + ((raised (keyOf policy d g 0 0) - 256) * 8 + i)) % 65536
+    ≡ raised (keyOf policy d g p c) * 8 + i
+key-old policy d g p c i h fd fg fp fc =
+    rw (raised-key policy d g 0 0 fd fg none none, raised-key policy d g p c fd fg fp fc)
+    (by-bool (ltb policy 4)
+    (λ e. rw (e, and-zero-r c)
+    (by-bool (ltb policy 2)
+    (λ k. rw (k, and-zero-r p) (omega arith))
+    (λ k. rw (k, bits-all p fp) (omega arith))))
+    (λ e. rw (e, le-ltb policy 2 (omega (arith, ltb-false policy 4 e)), bits-all p fp, bits-all c fc) (omega arith)))
+  where
+    none : Fits w8 0
+    none = record { fits = omega arith }
 
 place-old :
     (t : Table) (s : State) (i w : ℕ) → i < 8 → TableBytes t → Fits w16 w → getD (s .c) i 0 ≡ w % 256 → getD (s .p) i 0 ≡ w / 256
-    → oldPlace (pick (ltb (t .policy) 2) 0 255) (pick (notPreempted t) (getD (t .work) i 0) 0) (shifted (ltb (t .policy) 2) (getD (t .deadline) i 0) (getD (t .gap) i 0) 0 * 8 + i) w
+    → oldPlace (pick (ltb (t .policy) 2) 0 255) (pick (ltb (t .policy) 4) 0 255) (pick (notPreempted t) (getD (t .work) i 0) 0) (baseAt t i) w
     ≡ place t s i
-unfolding oldPlace place keeps started shiftedAt
+unfolding oldPlace place keeps started key baseAt
 place-old t s i w h b f e k =
     rw (e, k)
     (by-bool (ltb 0 (w % 256))
@@ -72,7 +86,7 @@ place-old t s i w h b f e k =
     rw r
     (ap₂ (λ y x. pick y 0 x)
     (stays-test (notPreempted t) (w % 256) (getD (t .work) i 0))
-    (key-old (ltb (t .policy) 2) (getD (t .deadline) i 0) (getD (t .gap) i 0) (w / 256) i h (b .deadline i h) (b .gap i h) (omega arith))))
+    (key-old (t .policy) (getD (t .deadline) i 0) (getD (t .gap) i 0) (w / 256) (w % 256) i h (b .deadline i h) (b .gap i h) (record { fits = omega (arith, f) }) (record { fits = omega arith }))))
     (λ r. rw r))
 
 -- ---- what a mask selects
@@ -136,11 +150,11 @@ module _ (t : Table) (v : List ℕ) (mask : ℕ) (bytes : TableBytes t) (words :
   unfolding stateOf
   gap-old i h e = gap-off t (stateOf v) mask i h e ∙ eight-at 0 (λ i. getD v i 0 / 256) i h
 
-  work-byte : (i : ℕ) → i < 8 → getD (u .c) i 0 < 256
+  work-byte : (i : ℕ) → i < 8 → Fits w8 (getD (u .c) i 0)
   work-byte i h =
       by-bool (bit mask i)
-      (λ e. omega (arith, work-on t (stateOf v) mask i h e, bytes .work i h))
-      (λ e. rw (work-old i h e) (omega arith))
+      (λ e. rw (work-on t (stateOf v) mask i h e) (bytes .work i h))
+      (λ e. rw (work-old i h e) (record { fits = omega arith }))
 
   gap-byte : (i : ℕ) → i < 8 → Fits w8 (getD (u .p) i 0)
   gap-byte i h =
@@ -149,7 +163,7 @@ module _ (t : Table) (v : List ℕ) (mask : ℕ) (bytes : TableBytes t) (words :
       (λ e. rw (gap-old i h e) (record { fits = omega (arith, words .word i h) }))
 
   place-bytes : (i : ℕ) → i < 8 → Bytes t u i
-  place-bytes i h = record { deadline = bytes .deadline i h; gap = bytes .gap i h; p = gap-byte i h }
+  place-bytes i h = record { deadline = bytes .deadline i h; gap = bytes .gap i h; c = work-byte i h; p = gap-byte i h }
 
   -- the place and the word selected for a task
   abbrev places : ℕ → ℕ
@@ -171,10 +185,10 @@ module _ (t : Table) (v : List ℕ) (mask : ℕ) (bytes : TableBytes t) (words :
       (gap-on t start 255 i h (full i h) ∙ sym (gap-on t (stateOf v) mask i h e)))
       (λ e.
       selected-old mask (preparedBy (tickerOf t) v .place) (tickerOf t .newplace) i h e
-      ∙ eight-at 0 (λ i. oldPlace (tickerOf t .counts) (getD (tickerOf t .kept) i 0) (getD (tickerOf t .base) i 0) (getD v i 0)) i h
-      ∙ ap₂ (λ x y. oldPlace (tickerOf t .counts) x y (getD v i 0))
+      ∙ eight-at 0 (λ i. oldPlace (tickerOf t .bygap) (tickerOf t .bywork) (getD (tickerOf t .kept) i 0) (getD (tickerOf t .base) i 0) (getD v i 0)) i h
+      ∙ ap₂ (λ x y. oldPlace (tickerOf t .bygap) (tickerOf t .bywork) x y (getD v i 0))
       (eight-at 0 (λ i. pick (notPreempted t) (getD (t .work) i 0) 0) i h)
-      (eight-at 0 (λ i. shifted (ltb (t .policy) 2) (getD (t .deadline) i 0) (getD (t .gap) i 0) 0 * 8 + i) i h)
+      (eight-at 0 (baseAt t) i h)
       ∙ place-old t u i (getD v i 0) h bytes (words .word i h) (work-old i h e) (gap-old i h e))
 
   -- the word is that of its two numbers, but for the run
@@ -217,11 +231,11 @@ module _ (t : Table) (v : List ℕ) (mask : ℕ) (bytes : TableBytes t) (words :
       state-same
       (eight-same (λ i. getD (tickedBy (tickerOf t) (preparedBy (tickerOf t) v) mask) i 0 % 256) (ranAt (u .c) (chosen t u)) (λ i h.
       ap (λ w. w % 256) (ticked-at i h)
-      ∙ word-low (runs t u i) (getD (u .c) i 0) (getD (u .p) i 0 - 1) (work-byte i h) (runs-ready t u i)
+      ∙ word-low (runs t u i) (getD (u .c) i 0) (getD (u .p) i 0 - 1) (omega (arith, work-byte i h)) (runs-ready t u i)
       ∙ ap (λ r. pick r (getD (u .c) i 0 - 1) (getD (u .c) i 0)) (sym (eight-at false (runs t u) i h))))
       (eight-same (λ i. getD (tickedBy (tickerOf t) (preparedBy (tickerOf t) v) mask) i 0 / 256) (fallen (u .p)) (λ i h.
       ap (λ w. w / 256) (ticked-at i h)
-      ∙ word-high (runs t u i) (getD (u .c) i 0) (getD (u .p) i 0 - 1) (work-byte i h) (runs-ready t u i)))
+      ∙ word-high (runs t u i) (getD (u .c) i 0) (getD (u .p) i 0 - 1) (omega (arith, work-byte i h)) (runs-ready t u i)))
 
 -- LAW: a tick of any state by its words
 pub ticker-state :

@@ -7,7 +7,7 @@ use mathlib.Core.Bool.{_||_}
 use lib.ListN.{length, getD, set, drop}
 use lib.Dec.{ltb}
 use Rattle.lists.specs.Lists.{eight, pick}
-use Rattle.tasks.specs.Table.{breaks, tableFault}
+use Rattle.tasks.specs.Table.{lastPolicy, breaks, tableFault}
 use Rattle.tasks.specs.Number.{numberBytes, numberAt}
 use Rattle.tasks.specs.declared.number.Number.{Number}
 use Rattle.tasks.specs.declared.number.Number.the-variants.{Value, Refused}
@@ -102,7 +102,7 @@ fromTasks s policy m n at = tasksFrom n 0 (emptyTable policy m n) s at
 -- policy, m and n, and then the tasks
 unfoldable pub fromPolicy : List ℕ → ℕ → Sheet
 fromPolicy s at =
-    andThen (fieldAt s at 0 3 4)
+    andThen (fieldAt s at 0 lastPolicy 4)
     (λ policy a. andThen (fieldAt s a 1 8 5) (λ m b. andThen (fieldAt s b 1 8 6) (λ n next. fromTasks s policy m n next)))
 
 -- what reading a sheet answers

@@ -1,31 +1,16 @@
--- The state and when it is proper (document 01, "State"); its table is that of "The task table".
+-- The state and when it is proper (document 01, "State"); its table is that of "The task table". The time left and the slack of a job are in Job.antt of `jobs`.
 use Prim.Native.Nat.{ℕ}
 use mathlib.Core.Bool.{Bool, _&&_, _||_}
 use lib.ListN.{getD}
 use lib.Dec.{eqb, ltb, leb}
-use lib.IntN.{ℤ, pos, _-ℤ_}
-use lib.Signed.{ltZ}
 use Rattle.lists.specs.Lists.{eight, count, any}
+use Rattle.jobs.specs.Job.{lateJob}
 use Rattle.tasks.specs.declared.state.State.{State}
 use Rattle.tasks.specs.declared.table.Table.{Table}
 
 -- the start state
 abbrev pub start : State
 start = record { c = eight (λ i. 0); p = eight (λ i. 0) }
-
--- ---- a job's numbers
-
--- the time left, d = D - (P - p)
-abbrev pub timeLeft : ℕ → ℕ → ℕ → ℤ
-timeLeft deadline gap p = pos deadline -ℤ (pos gap -ℤ pos p)
-
--- the slack, d - c
-abbrev pub slack : ℕ → ℕ → ℕ → ℕ → ℤ
-slack deadline gap p c = timeLeft deadline gap p -ℤ pos c
-
--- the time left of task i's job
-abbrev pub timeLeftAt : Table → State → ℕ → ℤ
-timeLeftAt t s i = timeLeft (getD (t .deadline) i 0) (getD (t .gap) i 0) (getD (s .p) i 0)
 
 -- ---- what a job is
 
@@ -45,11 +30,7 @@ notPreempted t = eqb (t .policy) 0 || eqb (t .policy) 2
 unfoldable pub keeps : Table → State → ℕ → Bool
 keeps t s i = notPreempted t && started t s i
 
--- a job with c work left is late: its slack is below 0
-abbrev pub lateJob : ℕ → ℕ → ℕ → ℕ → Bool
-lateJob deadline gap p c = ltb 0 c && ltZ (slack deadline gap p c) (pos 0)
-
--- task i's job is late
+-- task i's job is late: it has work left, and its slack is below 0
 unfoldable pub late : Table → State → ℕ → Bool
 late t s i = lateJob (getD (t .deadline) i 0) (getD (t .gap) i 0) (getD (s .p) i 0) (getD (s .c) i 0)
 

@@ -6,6 +6,10 @@ use lib.Dec.{ltb}
 use Rattle.lists.specs.Lists.{pick, any}
 use Rattle.tasks.specs.declared.table.Table.{Table}
 
+-- the last policy: 0 NP-GFP, 1 P-GFP, 2 NP-EDF, 3 P-EDF, 4 P-LST, least slack first (document 02, §3)
+abbrev pub lastPolicy : ℕ
+lastPolicy = 4
+
 -- not 1 to 8
 abbrev pub outside : ℕ → Bool
 outside x = ltb x 1 || ltb 8 x
@@ -24,7 +28,7 @@ faultAt t i =
 -- the refusal of a table: the first of 4 to 7 that applies, and 0 for a valid table
 unfoldable pub tableFault : Table → ℕ
 tableFault t =
-    pick (ltb 3 (t .policy)) 4
+    pick (ltb lastPolicy (t .policy)) 4
     (pick (outside (t .m)) 5
     (pick (outside (t .n)) 6
     (pick (any 8 (faultAt t)) 7 0)))

@@ -4,11 +4,12 @@ use mathlib.Core.List.{List}
 use mathlib.Core.Bool.{Bool, false, not, _&&_, _||_}
 use lib.ListN.{getD}
 use lib.Dec.{eqb, ltb, leb}
-use lib.IntN.{ℤ, pos}
+use lib.IntN.{ℤ}
 use lib.Signed.{ltZ}
 use Rattle.lists.specs.Lists.{eight, pick, count, any}
+use Rattle.jobs.specs.Job.{keyOf}
 use Rattle.tasks.specs.Table.{tableFault}
-use Rattle.tasks.specs.State.{timeLeftAt, ready, keeps, late, improper}
+use Rattle.tasks.specs.State.{ready, keeps, late, improper}
 use Rattle.tasks.specs.declared.state.State.{State}
 use Rattle.tasks.specs.declared.table.Table.{Table}
 use Rattle.tasks.specs.declared.tick.TickAnswer.{TickAnswer}
@@ -46,10 +47,9 @@ released t s mask =
 abbrev pub lex : ℤ → ℤ → Bool → Bool
 lex a b rest = ltZ a b || (not (ltZ b a) && rest)
 
--- by what the policy orders the jobs: fixed priority by nothing but the task's number, earliest deadline by the time left;
--- a further policy is one more test here
+-- by what the policy orders the jobs, for task i: nothing, the time left or the slack
 unfoldable pub key : Table → State → ℕ → ℤ
-key t s i = pick (ltb (t .policy) 2) (pos 0) (timeLeftAt t s i)
+key t s i = keyOf (t .policy) (getD (t .deadline) i 0) (getD (t .gap) i 0) (getD (s .p) i 0) (getD (s .c) i 0)
 
 -- the job of task j goes before that of task i: by key, then by task number; a further tie-break is one more `lex` here
 unfoldable pub before : Table → State → ℕ → ℕ → Bool

@@ -7,14 +7,20 @@ use lib.Bits.{bitAnd}
 use lib.ListN.{getD}
 use lib.Dec.{eqb, ltb}
 use Rattle.lists.specs.Lists.{eight, pick, byteOf}
+use Rattle.jobs.specs.Job.{keyOf}
+use Rattle.jobs.specs.Place.{raised}
 use Rattle.tasks.specs.State.{start, notPreempted}
 use Rattle.tasks.specs.Tick.{released, ran}
 use Rattle.cores.specs.Walk.{taken}
-use Rattle.tasks.specs.Places.{shifted, place}
+use Rattle.tasks.specs.Places.{place}
 use Rattle.tasks.specs.Words.{wordsOf}
 use Rattle.tasks.specs.declared.table.Table.{Table}
 use Rattle.tasks.specs.declared.ticker.Prepared.{Prepared}
 use Rattle.tasks.specs.declared.ticker.Ticker.{Ticker}
+
+-- a job's place but for what its two numbers add to it: the key of p = 0 and c = 0, raised by 256 only, and below it the task's number
+unfoldable pub baseAt : Table → ℕ → ℕ
+baseAt t i = (raised (keyOf (t .policy) (getD (t .deadline) i 0) (getD (t .gap) i 0) 0 0) - 256) * 8 + i
 
 -- a table made ready; what a release leaves of a task is read off a state in which every task has just been released
 unfoldable pub tickerOf : Table → Ticker
@@ -22,11 +28,12 @@ tickerOf t =
     record {
       bits = eight (λ i. 2 ^ i);
       kept = eight (λ i. pick (notPreempted t) (getD (t .work) i 0) 0);
-      base = eight (λ i. shifted (ltb (t .policy) 2) (getD (t .deadline) i 0) (getD (t .gap) i 0) 0 * 8 + i);
+      base = eight (baseAt t);
       newplace = eight (place t (released t start 255));
       newword = wordsOf (ran (released t start 255) (eight (λ i. false)));
       limit = eight (λ i. pick (ltb i (t .n)) 256 0);
-      counts = pick (ltb (t .policy) 2) 0 255;
+      bygap = pick (ltb (t .policy) 2) 0 255;
+      bywork = pick (ltb (t .policy) 4) 0 255;
       m = t .m;
     }
 
@@ -40,10 +47,14 @@ readyIn w = ltb 0 (w % 256)
 abbrev pub keepsIn : ℕ → ℕ → Bool
 keepsIn kept w = ltb (w % 256) kept
 
+-- 256 and what the two numbers in word w add to a key: p, where the policy goes by it, less c, where it goes by that
+abbrev pub moved : ℕ → ℕ → ℕ → ℕ
+moved bygap bywork w = 256 + bitAnd (w / 256) bygap - bitAnd (w % 256) bywork
+
 -- the place of a task with word w that is not released
-unfoldable pub oldPlace : ℕ → ℕ → ℕ → ℕ → ℕ
-oldPlace counts kept base w =
-    pick (readyIn w) (pick (keepsIn kept w) 0 ((bitAnd (w / 256) counts * 8 + base) % 65536)) 65535
+unfoldable pub oldPlace : ℕ → ℕ → ℕ → ℕ → ℕ → ℕ
+oldPlace bygap bywork kept base w =
+    pick (readyIn w) (pick (keepsIn kept w) 0 ((moved bygap bywork w * 8 + base) % 65536)) 65535
 
 -- its word after the tick, but for its run
 unfoldable pub oldWord : ℕ → ℕ
@@ -52,7 +63,7 @@ oldWord w = w % 256 + 256 * (w / 256 - 1)
 unfoldable pub preparedBy : Ticker → List ℕ → Prepared
 preparedBy k v =
     record {
-      place = eight (λ i. oldPlace (k .counts) (getD (k .kept) i 0) (getD (k .base) i 0) (getD v i 0));
+      place = eight (λ i. oldPlace (k .bygap) (k .bywork) (getD (k .kept) i 0) (getD (k .base) i 0) (getD v i 0));
       word = eight (λ i. oldWord (getD v i 0));
     }
 

@@ -7,7 +7,7 @@ use lib.IntN.{pos}
 use lib.ListN.{getD}
 use lib.Signed.{ltZ}
 use Rattle.lists.specs.Lists.{any}
-use Rattle.tasks.specs.State.{slack}
+use Rattle.jobs.specs.Job.{slack}
 use Rattle.tasks.specs.declared.state.State.{State}
 use Rattle.tasks.specs.declared.table.Table.{Table}
 

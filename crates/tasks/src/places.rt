@@ -2,46 +2,29 @@
 ghost use mathlib.Core.Path.{_≡_};
 ghost use Prim.Native.Nat.{_<_};
 ghost use Rattle.lists.specs.Lists.{eight};
-ghost use Rattle.tasks.specs.Tick.{chosen};
-ghost use Rattle.tasks.specs.Places.{shifted, placeOf, place};
+ghost use lib.Signed.{mag};
+ghost use Rattle.tasks.specs.Tick.{key, chosen};
+ghost use Rattle.tasks.specs.Places.{place};
 use crate::state::State;
 use crate::table::Table;
 use crate::widths::wide16;
 
-// 256 more than the key.
-pub(crate) fn shifted(fixed: bool, deadline: u8, gap: u8, p: u8) -> u16
-    ensures { λ r. ⌜ (r ≡ shifted fixed deadline gap p) × (r < 1024) ⌝ }
-{
-    if fixed {
-        return 256;
-    }
-    256 + wide16(deadline) + wide16(p) - wide16(gap)
-}
-
-// The place of task i: 0 where its job keeps its processor, 65535 where it has none.
-fn place_of(busy: bool, stays: bool, key: u16, i: usize) -> u16
-    requires { ⌜ (key < 1024) × (i < 8) ⌝ }
-    ensures { λ r. ⌜ r ≡ placeOf busy stays key i ⌝ }
-{
-    if busy {
-        if stays {
-            return 0;
-        }
-        return key * 8 + (i as u16);
-    }
-    65535
-}
-
 impl State {
+    // By what the policy orders the job of task i: nothing, the time left or the slack.
+    fn key(self, t: Table, i: usize) -> i16
+        requires { ⌜ i < 8 ⌝ }
+        ensures { λ r. ⌜ (r ≡ key t self i) × (mag r < 511) ⌝ }
+    {
+        jobs::key_of(t.policy, t.deadline[i], t.gap[i], self.p[i], self.c[i])
+    }
+
     // The place of task i.
     fn place(self, t: Table, i: usize) -> u16
         requires { ⌜ i < 8 ⌝ }
         ensures { λ r. ⌜ r ≡ place t self i ⌝ }
     {
-        let policy = t.policy;
         let c = self.c[i];
-        let key = shifted(policy < 2, t.deadline[i], t.gap[i], self.p[i]);
-        place_of(0 < c, self.keeps(t, i), key, i)
+        jobs::place_of(0 < c, self.keeps(t, i), self.key(t, i), i)
     }
 
     pub(crate) fn places(self, t: Table) -> [u16; 8]

@@ -1,6 +1,7 @@
 // The reader of a sheet.
 use crate::number::Number;
 use crate::number::read_number;
+use crate::table::LAST_POLICY;
 use crate::table::Table;
 use crate::table::breaks;
 ghost use mathlib.Core.Path.{_≡_};
@@ -147,7 +148,7 @@ fn read_tasks(s: &[u8], from: usize, policy: u8, m: u8, n: u8) -> Sheet
 fn read_header(s: &[u8], at: usize) -> Sheet
     ensures { λ r. ⌜ r ≡ fromPolicy (now (s .entry)) at ⌝ }
 {
-    match read_field(s, at, 0, 3, 4) {
+    match read_field(s, at, 0, LAST_POLICY, 4) {
         Number::Refused(r) => refused(r),
         Number::Value(policy, a) => match read_field(s, a, 1, 8, 5) {
             Number::Refused(r) => refused(r),

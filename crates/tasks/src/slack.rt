@@ -2,7 +2,6 @@
 ghost use mathlib.Core.Path.{_≡_};
 ghost use Rattle.tasks.specs.Tight.{tightJob, tight};
 ghost use Rattle.tasks.specs.Words.{stateOf};
-use crate::state::slack_of;
 use crate::table::Table;
 use crate::words::gap_in;
 use crate::words::work_in;
@@ -11,7 +10,7 @@ use crate::words::work_in;
 fn tight_job(deadline: u8, gap: u8, p: u8, c: u8) -> bool
     ensures { λ r. ⌜ r ≡ tightJob deadline gap p c ⌝ }
 {
-    (0 < c) & (slack_of(deadline, gap, p, c) < 1)
+    (0 < c) & (jobs::slack_of(deadline, gap, p, c) < 1)
 }
 
 // Whether some job of the state in the words has slack 0 or less, or would have it if it were released now. From a

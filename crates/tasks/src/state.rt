@@ -2,7 +2,7 @@
 ghost use mathlib.Core.Path.{_≡_};
 ghost use Prim.Native.Nat.{_-_, _<_};
 ghost use Rattle.lists.specs.Lists.{count, any};
-ghost use Rattle.tasks.specs.State.{start, timeLeft, slack, started, keeps, lateJob, late, improperAt, improper};
+ghost use Rattle.tasks.specs.State.{start, started, keeps, late, improperAt, improper};
 ghost use Rattle.tasks.specs.Tick.{bit, released, ran, missed, illegalAt, illegal};
 use crate::table::Table;
 use crate::widths::either;
@@ -26,27 +26,6 @@ fn down(x: u8) -> u8
     ensures { λ r. ⌜ r ≡ x - 1 ⌝ }
 {
     if 0 < x { x - 1 } else { 0 }
-}
-
-// The time left, D - (P - p).
-fn time_left(deadline: u8, gap: u8, p: u8) -> i16
-    ensures { λ r. ⌜ r ≡ timeLeft deadline gap p ⌝ }
-{
-    (deadline as i16) - ((gap as i16) - (p as i16))
-}
-
-// The slack: the time left less the work left.
-pub(crate) fn slack_of(deadline: u8, gap: u8, p: u8, c: u8) -> i16
-    ensures { λ r. ⌜ r ≡ slack deadline gap p c ⌝ }
-{
-    time_left(deadline, gap, p) - (c as i16)
-}
-
-// Whether a job with c work left is late.
-pub(crate) fn late_job(deadline: u8, gap: u8, p: u8, c: u8) -> bool
-    ensures { λ r. ⌜ r ≡ lateJob deadline gap p c ⌝ }
-{
-    (0 < c) & (slack_of(deadline, gap, p, c) < 0)
 }
 
 impl State {
@@ -96,7 +75,7 @@ impl State {
         requires { ⌜ i < 8 ⌝ }
         ensures { λ r. ⌜ r ≡ late t self i ⌝ }
     {
-        late_job(t.deadline[i], t.gap[i], self.p[i], self.c[i])
+        jobs::late_job(t.deadline[i], t.gap[i], self.p[i], self.c[i])
     }
 
     // Step 5 of a tick: whether some job is late.

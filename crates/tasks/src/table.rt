@@ -5,6 +5,9 @@ ghost use Prim.Native.Nat.{_<_};
 ghost use Rattle.lists.specs.Lists.{any};
 ghost use Rattle.tasks.specs.Table.{outside, breaks, faultAt, tableFault};
 
+// The last policy.
+pub(crate) const LAST_POLICY: usize = 4;
+
 // A table in memory: policy, processors, tasks, and for each of eight tasks its work C, deadline D and least gap P.
 pub struct Table {
     pub policy: u8,
@@ -61,10 +64,10 @@ impl Table {
     pub fn fault(self) -> u8
         ensures { λ r. ⌜ r ≡ tableFault self ⌝ }
     {
-        let policy = self.policy;
+        let policy = wide(self.policy);
         let m = outside(self.m);
         let n = outside(self.n);
-        if 3 < policy {
+        if LAST_POLICY < policy {
             return 4;
         }
         if m {

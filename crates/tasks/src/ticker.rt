@@ -5,17 +5,15 @@ ghost use lib.ListN.{getD};
 ghost use lib.Dec.{ltb};
 ghost use Rattle.lists.specs.Lists.{eight, pick};
 ghost use Rattle.tasks.specs.State.{notPreempted};
-ghost use Rattle.tasks.specs.Places.{shifted};
-ghost use Rattle.tasks.specs.Ticker.{tickerOf, readyIn, keepsIn, oldPlace, oldWord, preparedBy, selected, lowered, tickedBy, freeBy};
-use crate::places::shifted;
+ghost use Rattle.tasks.specs.Ticker.{baseAt, tickerOf, readyIn, keepsIn, oldPlace, oldWord, preparedBy, selected, lowered, tickedBy, freeBy};
 use crate::state::State;
 use crate::table::Table;
 use crate::widths::either16;
 use crate::widths::wide16;
 
 // A table made ready for many ticks. For each task: its bit in a mask; the work below which its job keeps its processor; its place but
-// for the ticks until its release; its place and its word in a tick that releases it; and the limit below which its word says that it
-// may be released. Then: 255 where those ticks count, and m.
+// for what its two numbers add to it; its place and its word in a tick that releases it; and the limit below which its word says that it
+// may be released. Then: 255 where the policy goes by the ticks until the release, 255 where it goes by the work left, and m.
 pub struct Ticker {
     bits: [u16; 8],
     kept: [u16; 8],
@@ -23,7 +21,8 @@ pub struct Ticker {
     newplace: [u16; 8],
     newword: [u16; 8],
     limit: [u16; 8],
-    counts: u16,
+    bygap: u16,
+    bywork: u16,
     m: u16,
 }
 
@@ -54,10 +53,11 @@ fn keeps_in(kept: u16, w: u16) -> bool
     w % 256 < kept
 }
 
-fn old_place(counts: u16, kept: u16, base: u16, w: u16) -> u16
-    ensures { λ r. ⌜ r ≡ oldPlace counts kept base w ⌝ }
+fn old_place(bygap: u16, bywork: u16, kept: u16, base: u16, w: u16) -> u16
+    ensures { λ r. ⌜ r ≡ oldPlace bygap bywork kept base w ⌝ }
 {
-    let place = std::num::wrapping_add_u16((w / 256 & counts) * 8, base);
+    let moved = 256 + (w / 256 & bygap) - (w % 256 & bywork);
+    let place = std::num::wrapping_add_u16(moved * 8, base);
     either16(ready_in(w), either16(keeps_in(kept, w), 0, place), 65535)
 }
 
@@ -95,12 +95,12 @@ fn lowered(places: [u16; 8], words: [u16; 8], m: u16) -> [u16; 8]
 
 impl Ticker {
     fn old_places(self, v: [u16; 8]) -> [u16; 8]
-        ensures { λ r. ⌜ r ≡ eight (λ i. oldPlace (self .counts) (getD (self .kept) i 0) (getD (self .base) i 0) (getD v i 0)) ⌝ }
+        ensures { λ r. ⌜ r ≡ eight (λ i. oldPlace (self .bygap) (self .bywork) (getD (self .kept) i 0) (getD (self .base) i 0) (getD v i 0)) ⌝ }
     {
         let mut out = [0u16; 8];
         let mut i: usize = 0;
         while i < 8 {
-            out[i] = old_place(self.counts, self.kept[i], self.base[i], v[i]);
+            out[i] = old_place(self.bygap, self.bywork, self.kept[i], self.base[i], v[i]);
             i += 1;
         }
         out
@@ -177,13 +177,14 @@ fn kept(t: Table) -> [u16; 8]
 }
 
 fn bases(t: Table) -> [u16; 8]
-    ensures { λ r. ⌜ r ≡ eight (λ i. shifted (ltb (t .policy) 2) (getD (t .deadline) i 0) (getD (t .gap) i 0) 0 * 8 + i) ⌝ }
+    ensures { λ r. ⌜ r ≡ eight (baseAt t) ⌝ }
 {
-    let fixed = t.policy < 2;
+    let policy = t.policy;
     let mut out = [0u16; 8];
     let mut i: usize = 0;
     while i < 8 {
-        out[i] = shifted(fixed, t.deadline[i], t.gap[i], 0) * 8 + (i as u16);
+        let key = jobs::key_of(policy, t.deadline[i], t.gap[i], 0, 0);
+        out[i] = less(jobs::raised(key), 256) * 8 + (i as u16);
         i += 1;
     }
     out
@@ -216,7 +217,8 @@ impl Table {
             newplace: fresh.places(self),
             newword: idle.words(),
             limit: limits(self),
-            counts: either16(self.policy < 2, 0, 255),
+            bygap: either16(self.policy < 2, 0, 255),
+            bywork: either16(self.policy < 4, 0, 255),
             m: wide16(self.m),
         }
     }

@@ -4,7 +4,6 @@ ghost use Prim.Native.Nat.{_/_, _%_};
 ghost use Rattle.tasks.specs.Tick.{missed};
 ghost use Rattle.tasks.specs.Words.{wordsOf, stateOf};
 use crate::state::State;
-use crate::state::late_job;
 use crate::table::Table;
 use crate::widths::wide16;
 
@@ -60,7 +59,7 @@ pub fn misses(t: Table, v: [u16; 8]) -> bool
     let mut i: usize = 0;
     while i < 8 {
         let c = work_in(v[i]);
-        found = found | late_job(t.deadline[i], t.gap[i], gap_in(v[i]), c);
+        found = found | jobs::late_job(t.deadline[i], t.gap[i], gap_in(v[i]), c);
         i += 1;
     }
     found

@@ -1,5 +1,6 @@
 -- Each number is refused, or passes its rule and the next is read; the tasks are read with a count of at most 8. Assumes nothing.
 use Rattle.tasks.proofs.Fields.{field-read}
+use Rattle.tasks.specs.Table.{lastPolicy}
 use Rattle.tasks.specs.Sheet.{fieldAt, fromPolicy}
 use Rattle.tasks.specs.declared.number.Number.the-variants.{Value}
 use mathlib.Core.Path.{_≡_, sym, _∙_}
@@ -9,7 +10,7 @@ use Rattle.tasks.proofs.sheet.read_header.Statement.{statement}
 use Rattle.tasks.proofs.sheet.read_header.Tie as tie
 
 -- the numbers that were read, each after the one before
-policy-read : (c : tie.After-policy) → fieldAt (c .before .before .before .before .args .s .now) (c .before .before .before .before .args .at) 0 3 4 ≡ Value (c .policy .given .0 .0) (c .policy .given .0 .1 .0)
+policy-read : (c : tie.After-policy) → fieldAt (c .before .before .before .before .args .s .now) (c .before .before .before .before .args .at) 0 lastPolicy 4 ≡ Value (c .policy .given .0 .0) (c .policy .given .0 .1 .0)
 policy-read c = sym (c .before .before .read-field .ensures) ∙ c .policy .given .1
 
 abbrev policy-place : tie.After-m → tie.After-policy
@@ -62,7 +63,7 @@ enum-known-n c = search needs
 
 cast-read-tasks : tie.Need-cast-read-tasks
 cast-read-tasks c =
-    omega (arith, field-read _ _ 0 3 4 (policy-read (policy-place (m-place (c .before)))) .upto)
+    omega (arith, field-read _ _ 0 lastPolicy 4 (policy-read (policy-place (m-place (c .before)))) .upto)
 
 cast-read-tasks-2 : tie.Need-cast-read-tasks-2
 cast-read-tasks-2 c =

@@ -1,6 +1,6 @@
 use Rattle.tasks.specs.Tight.{tightJob}
 use borrow.Author.Needs.{needs}
-use Rattle.tasks.proofs.Signed.{back}
+use Rattle.jobs.proofs.Signed.{back}
 use Rattle.tasks.proofs.slack.tight_job.Statement.{statement}
 use Rattle.tasks.proofs.slack.tight_job.Tie as tie
 

@@ -1,30 +1,36 @@
 use Prim.Native.Nat.{_≤_, _-_, _+_, _*_}
-use mathlib.Core.Path.{refl, ap}
-use lib.ListN.{getD}
+use mathlib.Core.Path.{_≡_, refl}
 use native.Mathlib.Omega.{arith}
-use Rattle.tasks.specs.Places.{shifted}
+use Rattle.jobs.proofs.Signed.{back}
+use Rattle.tasks.specs.Ticker.{baseAt}
 use Rattle.lists.proofs.Fill.{Filled, filled-start, filled-store, filled-end}
 use borrow.Author.Needs.{needs}
 use Rattle.tasks.proofs.ticker.bases.Statement.{statement}
 use Rattle.tasks.proofs.ticker.bases.Tie as tie
 
 abbrev Inv-loop : tie.InvT-loop
-Inv-loop t fixed out₀ i₀ out i = (i ≤ 8) × Filled 0 (λ i. shifted fixed (getD (t .deadline) i 0) (getD (t .gap) i 0) 0 * 8 + i) out i
+Inv-loop t policy out₀ i₀ out i = (i ≤ 8) × Filled 0 (baseAt t) out i
 
 abbrev μ-loop : tie.MeasureT-loop
-μ-loop t fixed out₀ i₀ out i = 8 - i
+μ-loop t policy out₀ i₀ out i = 8 - i
 
 loop-holds : tie.Need-loop-holds Inv-loop μ-loop
 loop-holds c = (omega arith, filled-start refl)
 
-element-copy-out-shifted : tie.Need-element-copy-out-shifted Inv-loop μ-loop
-element-copy-out-shifted c = search needs
+element-copy-out-key-of : tie.Need-element-copy-out-key-of Inv-loop μ-loop
+element-copy-out-key-of c = search needs
 
-element-copy-out-shifted-2 : tie.Need-element-copy-out-shifted-2 Inv-loop μ-loop
-element-copy-out-shifted-2 c = search needs
+element-copy-out-key-of-2 : tie.Need-element-copy-out-key-of-2 Inv-loop μ-loop
+element-copy-out-key-of-2 c = search needs
 
-shifted-requires : tie.Need-shifted-requires Inv-loop μ-loop
-shifted-requires c κs = search needs
+key-of-requires : tie.Need-key-of-requires Inv-loop μ-loop
+key-of-requires c κs = search needs
+
+raised-requires : tie.Need-raised-requires Inv-loop μ-loop
+raised-requires c κs = rw (back (c .key-of .result) (c .key-of .ok)) (c .key-of .ensures .1)
+
+less-requires : tie.Need-less-requires Inv-loop μ-loop
+less-requires c κs = search needs
 
 mul-out : tie.Need-mul-out Inv-loop μ-loop
 mul-out c = search needs
@@ -47,8 +53,15 @@ add-i c = search needs
 loop-less : tie.Need-loop-less Inv-loop μ-loop
 loop-less c = search needs
 
+-- the number stored is the base of task i
+base : (c : tie.After-less Inv-loop μ-loop) → c .less .result * 8 + c .before .before .before .before .before .before .loop .i ≡ baseAt (c .before .before .before .before .before .before .before .args .t1) (c .before .before .before .before .before .before .loop .i)
+unfolding baseAt
+base c = rw (c .less .ensures, c .before .raised .ensures .0, back (c .before .before .key-of .result) (c .before .before .key-of .ok), c .before .before .key-of .ensures .0)
+
 loop-again : tie.Need-loop-again Inv-loop μ-loop
-loop-again c = (omega arith, filled-store (c .before .before .before .before .loop .inv .1) (omega arith) (ap (λ n. n * 8 + c .before .before .before .before .loop .i) (c .shifted .ensures .0)))
+loop-again c =
+    let l = c .before .before .before .before .before .before in
+    (omega arith, filled-store (l .loop .inv .1) (omega arith) (base c))
 
 returns : tie.Need-returns Inv-loop μ-loop
 returns c = filled-end (c .before .loop .inv .1) (c .loop-test .left)
@@ -60,9 +73,11 @@ bases-spec =
     Inv-loop
     μ-loop
     loop-holds
-    element-copy-out-shifted
-    element-copy-out-shifted-2
-    shifted-requires
+    element-copy-out-key-of
+    element-copy-out-key-of-2
+    key-of-requires
+    raised-requires
+    less-requires
     mul-out
     cast-out
     add-out

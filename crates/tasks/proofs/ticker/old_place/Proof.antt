@@ -1,4 +1,4 @@
-use Prim.Native.Nat.{_/_}
+use Prim.Native.Nat.{_/_, _%_}
 use mathlib.Core.Path.{_∙_}
 use lib.Bits.{and-le-l}
 use Rattle.tasks.specs.Ticker.{oldPlace}
@@ -7,8 +7,14 @@ use borrow.Author.Needs.{needs}
 use Rattle.tasks.proofs.ticker.old_place.Statement.{statement}
 use Rattle.tasks.proofs.ticker.old_place.Tie as tie
 
+add-moved : tie.Need-add-moved
+add-moved c = record { fits = omega (arith, and-le-l (c .args .w / 256) (c .args .bygap)) }
+
+sub-moved : tie.Need-sub-moved
+sub-moved c = omega (arith, and-le-l (c .args .w % 256) (c .args .bywork))
+
 mul-wrapping-add-u16 : tie.Need-mul-wrapping-add-u16
-mul-wrapping-add-u16 c = record { fits = omega (arith, and-le-l (c .args .w / 256) (c .args .counts)) }
+mul-wrapping-add-u16 c = record { fits = omega (arith, and-le-l (c .args .w / 256) (c .args .bygap)) }
 
 wrapping-add-u16-requires : tie.Need-wrapping-add-u16-requires
 wrapping-add-u16-requires c κs = search needs
@@ -35,6 +41,8 @@ pub old-place-spec : {M : Type 1} → statement M
 old-place-spec =
     tie.close
     (tie.spec
+    add-moved
+    sub-moved
     mul-wrapping-add-u16
     wrapping-add-u16-requires
     ready-in-requires

@@ -53,7 +53,7 @@ loop-again c = (omega arith, filled-store (c .before .loop .inv .1) (omega arith
 
 -- the numbers that a place is made of are bytes
 bytes : (c : tie.Start Inv-loop μ-loop) (i : ℕ) → Bytes (c .args .t) (c .args .self) i
-bytes c i = record { deadline = search needs; gap = search needs; p = search needs }
+bytes c i = record { deadline = search needs; gap = search needs; c = search needs; p = search needs }
 
 returns : tie.Need-returns Inv-loop μ-loop
 returns c =

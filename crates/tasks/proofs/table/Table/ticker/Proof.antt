@@ -37,13 +37,16 @@ limits-requires c κs = search needs
 either16-requires : tie.Need-either16-requires
 either16-requires c κs = search needs
 
+either16-requires-2 : tie.Need-either16-requires-2
+either16-requires-2 c κs = search needs
+
 wide16-requires : tie.Need-wide16-requires
 wide16-requires c κs = search needs
 
 returns : tie.Need-returns
 unfolding tickerOf
 returns c =
-    let l = c .before .before .before in
+    let l = c .before .before .before .before .before in
     let w = l .before in
     let k = w .before .before .before in
     let r = k .before .before in
@@ -59,7 +62,8 @@ returns c =
       newplace = place j;
       newword = word j;
       limit = l .limits .ensures j;
-      counts = c .before .either16 .ensures j;
+      bygap = c .before .before .before .either16 .ensures j;
+      bywork = c .before .either162 .ensures j;
       m = c .wide16 .ensures .0 j;
     }
 
@@ -76,5 +80,6 @@ ticker-spec =
     words-requires
     limits-requires
     either16-requires
+    either16-requires-2
     wide16-requires
     returns)

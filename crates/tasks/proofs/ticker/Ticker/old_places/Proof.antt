@@ -9,7 +9,7 @@ use Rattle.tasks.proofs.ticker.Ticker.old_places.Statement.{statement}
 use Rattle.tasks.proofs.ticker.Ticker.old_places.Tie as tie
 
 abbrev Inv-loop : tie.InvT-loop
-Inv-loop self v out₀ i₀ out i = (i ≤ 8) × Filled 0 (λ i. oldPlace (self .counts) (getD (self .kept) i 0) (getD (self .base) i 0) (getD v i 0)) out i
+Inv-loop self v out₀ i₀ out i = (i ≤ 8) × Filled 0 (λ i. oldPlace (self .bygap) (self .bywork) (getD (self .kept) i 0) (getD (self .base) i 0) (getD v i 0)) out i
 
 abbrev μ-loop : tie.MeasureT-loop
 μ-loop self v out₀ i₀ out i = 8 - i

@@ -1,9 +1,9 @@
 use mir.Syntax.{w16}
 use mir.ValLaws.{toZ-ofZ}
-use Rattle.tasks.proofs.Signed.{back, byte, slack-fits}
+use Rattle.jobs.proofs.Signed.{back, byte, slack-fits}
 use borrow.Author.Needs.{needs}
-use Rattle.tasks.proofs.state.slack_of.Statement.{statement}
-use Rattle.tasks.proofs.state.slack_of.Tie as tie
+use Rattle.jobs.proofs.job.slack_of.Statement.{statement}
+use Rattle.jobs.proofs.job.slack_of.Tie as tie
 
 time-left-requires : tie.Need-time-left-requires
 time-left-requires c κs = search needs

@@ -10,7 +10,7 @@ use mir.Syntax.{w8, w16}
 use mir.Val.{Fits, SFits, toZ, ofZ}
 use mir.ValLaws.{toZ-pos, toZ-ofZ}
 use borrow.Author.Tests.{lt-ltb, le-ltb}
-use Rattle.tasks.specs.State.{timeLeft, slack}
+use Rattle.jobs.specs.Job.{timeLeft, slack}
 
 pub by-lt : {X : Type 0} (a b : ℕ) → (a < b → X) → (b ≤ a → X) → X
 by-lt a b f g = elim (decLt a b) [ yes h ↦ f h | no n ↦ g (omega arith) ]

@@ -1,7 +1,7 @@
 use borrow.Author.Needs.{needs}
-use Rattle.tasks.proofs.Signed.{back}
-use Rattle.tasks.proofs.state.late_job.Statement.{statement}
-use Rattle.tasks.proofs.state.late_job.Tie as tie
+use Rattle.jobs.proofs.Signed.{back}
+use Rattle.jobs.proofs.job.late_job.Statement.{statement}
+use Rattle.jobs.proofs.job.late_job.Tie as tie
 
 slack-of-requires : tie.Need-slack-of-requires
 slack-of-requires c κs = search needs

@@ -1,9 +1,9 @@
 use mir.Syntax.{w16}
 use mir.ValLaws.{toZ-ofZ}
-use Rattle.tasks.proofs.Signed.{byte, bytes-fit, time-left-fits}
+use Rattle.jobs.proofs.Signed.{byte, bytes-fit, time-left-fits}
 use borrow.Author.Needs.{needs}
-use Rattle.tasks.proofs.state.time_left.Statement.{statement}
-use Rattle.tasks.proofs.state.time_left.Tie as tie
+use Rattle.jobs.proofs.job.time_left.Statement.{statement}
+use Rattle.jobs.proofs.job.time_left.Tie as tie
 
 cast-result : tie.Need-cast-result
 cast-result c = search needs
