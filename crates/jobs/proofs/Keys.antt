@@ -10,17 +10,17 @@ use mir.Val.{Fits}
 use borrow.Author.Tests.{lt-ltb, le-ltb}
 use Rattle.lists.specs.Lists.{pick}
 use Rattle.lists.proofs.Bools.{by-bool}
-use Rattle.jobs.specs.Job.{keyOf}
+use Rattle.jobs.specs.Job.{jobKey}
 use Rattle.jobs.specs.Place.{raised}
 use Rattle.jobs.proofs.Signed.{by-lt, sub-lt, sub-ge, mag-sub, ltb-same, time-left-sub, slack-sub}
 
 -- ---- any key, whatever the policy
 
-pub raised-pos : (n : ℕ) → raised (pos n) ≡ n + 512
+raised-pos : (n : ℕ) → raised (pos n) ≡ n + 512
 unfolding raised
 raised-pos n = refl
 
-pub raised-neg : (n : ℕ) → n < 512 → raised (negsuc n) ≡ 512 - suc n
+raised-neg : (n : ℕ) → n < 512 → raised (negsuc n) ≡ 512 - suc n
 unfolding raised
 raised-neg n h = rw (sub-ge 512 (suc n) (omega arith))
 
@@ -43,7 +43,7 @@ raised-range (pos n) h = (omega (arith, raised-pos n), omega (arith, raised-pos 
 raised-range (negsuc n) h = (omega (arith, raised-neg n (omega arith)), omega (arith, raised-neg n (omega arith)))
 
 -- a raised difference of natural numbers
-pub raised-sub : (a b : ℕ) → b ≤ 511 → raised (subℕ a b) ≡ 512 + a - b
+raised-sub : (a b : ℕ) → b ≤ 511 → raised (subℕ a b) ≡ 512 + a - b
 raised-sub a b h =
     by-lt a b
     (λ l. rw (sub-lt a b l) (raised-neg (b - suc a) (omega arith) ∙ omega arith))
@@ -53,8 +53,8 @@ raised-sub a b h =
 
 module _ (policy d g p c : ℕ) (fd : Fits w8 d) (fg : Fits w8 g) (fp : Fits w8 p) (fc : Fits w8 c) where
   -- LAW: a key is -511 to 510
-  pub key-range : mag (keyOf policy d g p c) < 511
-  unfolding keyOf
+  pub key-range : mag (jobKey policy d g p c) < 511
+  unfolding jobKey
   key-range =
       by-bool (ltb policy 2) (λ e. rw e (omega arith))
       (λ e. rw e
@@ -63,8 +63,8 @@ module _ (policy d g p c : ℕ) (fd : Fits w8 d) (fg : Fits w8 g) (fp : Fits w8 
       (λ h. rw (h, slack-sub d g p c) (mag-sub (d + p) (g + c) 511 (omega arith) (omega arith)))))
 
   -- LAW: the raised key in natural numbers
-  pub raised-key : raised (keyOf policy d g p c) ≡ pick (ltb policy 2) 512 (pick (ltb policy 4) (512 + (d + p) - g) (512 + (d + p) - (g + c)))
-  unfolding keyOf
+  pub raised-key : raised (jobKey policy d g p c) ≡ pick (ltb policy 2) 512 (pick (ltb policy 4) (512 + (d + p) - g) (512 + (d + p) - (g + c)))
+  unfolding jobKey
   raised-key =
       by-bool (ltb policy 2) (λ e. rw e (raised-pos 0))
       (λ e. rw e

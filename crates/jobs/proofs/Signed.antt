@@ -1,6 +1,6 @@
 -- A signed difference of two natural numbers, `subℕ a b`, and what a signed test says in natural numbers. Assumes nothing.
 use Prim.Native.Nat.{ℕ, zero, suc, _+_, _-_, _^_, _≤_, _<_, zero-le}
-use mathlib.Core.Path.{_≡_, refl, sym, ap, _∙_, ap₂}
+use mathlib.Core.Path.{_≡_, refl, sym, ap, _∙_}
 use native.Mathlib.Omega.{arith}
 use native.Mathlib.Decide.{decLt}
 use lib.Dec.{ltb}
@@ -95,10 +95,6 @@ slack-sub d g p c = ap (λ z. z -ℤ pos c) (time-left-sub d g p) ∙ sub-sub-po
 -- a job is late where D + p is below P + c
 pub slack-late : (d g p c : ℕ) → ltZ (slack d g p c) (pos 0) ≡ ltb (d + p) (g + c)
 slack-late d g p c = ap (λ z. ltZ z (pos 0)) (slack-sub d g p c) ∙ ltZ-zero (d + p) (g + c)
-
--- one job has less time left than another
-pub time-left-less : (d g p e h q : ℕ) → ltZ (timeLeft d g p) (timeLeft e h q) ≡ ltb (d + p + h) (e + q + g)
-time-left-less d g p e h q = ap₂ ltZ (time-left-sub d g p) (time-left-sub e h q) ∙ ltZ-sub (d + p) g (e + q) h
 
 pub bytes-fit : {g p : ℕ} → Fits w8 g → Fits w8 p → SFits w16 (pos g -ℤ pos p)
 bytes-fit {g} {p} fg fp = rw (pos-sub-pos g p) (fits-sub g p (omega arith) (omega arith))

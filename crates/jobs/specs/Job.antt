@@ -21,8 +21,8 @@ lateJob deadline gap p c = ltb 0 c && ltZ (slack deadline gap p c) (pos 0)
 
 -- by what a policy orders the jobs ("One tick", step 2, and document 02, §3): fixed priority, 0 and 1, by nothing but the task's number; earliest
 -- deadline, 2 and 3, by the time left; least slack, 4, by the slack, that which decides a miss. A further policy is one more test here
-unfoldable pub keyOf : ℕ → ℕ → ℕ → ℕ → ℕ → ℤ
-keyOf policy deadline gap p c =
+unfoldable pub jobKey : ℕ → ℕ → ℕ → ℕ → ℕ → ℤ
+jobKey policy deadline gap p c =
     pick (ltb policy 2) (pos 0)
     (pick (ltb policy 4) (timeLeft deadline gap p)
     (slack deadline gap p c))

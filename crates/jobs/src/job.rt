@@ -2,7 +2,7 @@
 ghost use mathlib.Core.Path.{_≡_};
 ghost use Prim.Native.Nat.{_<_};
 ghost use lib.Signed.{mag};
-ghost use Rattle.jobs.specs.Job.{timeLeft, slack, lateJob, keyOf};
+ghost use Rattle.jobs.specs.Job.{timeLeft, slack, lateJob, jobKey};
 
 // The time left, D - (P - p).
 fn time_left(deadline: u8, gap: u8, p: u8) -> i16
@@ -26,8 +26,8 @@ pub fn late_job(deadline: u8, gap: u8, p: u8, c: u8) -> bool
 }
 
 // The key of a job: of two jobs that with the smaller one goes first, under any policy.
-pub fn key_of(policy: u8, deadline: u8, gap: u8, p: u8, c: u8) -> i16
-    ensures { λ r. ⌜ (r ≡ keyOf policy deadline gap p c) × (mag r < 511) ⌝ }
+pub fn job_key(policy: u8, deadline: u8, gap: u8, p: u8, c: u8) -> i16
+    ensures { λ r. ⌜ (r ≡ jobKey policy deadline gap p c) × (mag r < 511) ⌝ }
 {
     if policy < 2 {
         return 0;

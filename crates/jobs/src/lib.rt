@@ -2,7 +2,7 @@
 mod job;
 mod place;
 
-pub use job::key_of;
+pub use job::job_key;
 pub use job::late_job;
 pub use job::slack_of;
 pub use place::place_of;

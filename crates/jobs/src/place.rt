@@ -17,11 +17,12 @@ pub fn place_of(busy: bool, stays: bool, key: i16, i: usize) -> u16
     requires { ⌜ (mag key < 511) × (i < 8) ⌝ }
     ensures { λ r. ⌜ r ≡ placeOf busy stays key i ⌝ }
 {
+    let high = raised(key);
     if busy {
         if stays {
             return 0;
         }
-        return raised(key) * 8 + (i as u16);
+        return high * 8 + (i as u16);
     }
     65535
 }

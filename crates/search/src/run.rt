@@ -1,6 +1,5 @@
 // The search level by level: a level is hunted for a miss before any of its successors is stored.
 ghost use mathlib.Core.Path.{_≡_};
-ghost use Prim.Native.Nat.{_≤_};
 ghost use Rattle.tasks.specs.Ticker.{tickerOf};
 ghost use Rattle.search.specs.Keeping.{Spaces, RanBy};
 use crate::hunt::HuntAnswer;

@@ -7,7 +7,7 @@ use Rattle.lists.specs.Lists.{count, any}
 use Rattle.tasks.specs.Table.{breaks, faultAt, tableFault}
 use Rattle.tasks.specs.Number.{numberIn, numberAt}
 use Rattle.tasks.specs.State.{started, keeps, late, improperAt, improper}
-use Rattle.jobs.specs.Job.{keyOf}
+use Rattle.jobs.specs.Job.{jobKey}
 use Rattle.tasks.specs.Tick.{illegalAt, illegal, releasedAt, released, key, before, ahead, runs, chosen, ranAt, fallen, ran, after, missed, refusal, ticked}
 use Rattle.tasks.specs.Answers.{numberAnswer, replayFigures, replayAnswer}
 use Rattle.tasks.specs.Replay.{played, replayed}
@@ -21,7 +21,7 @@ use Rattle.search.proofs.ComputedLaws.{verdict-right}
 use Rattle.starred.specs.Starred.{answer, starred, Example}
 
 pub starred-hold : map (λ (e : Example). answer (e .asks)) starred ≡ map (λ (e : Example). e .says) starred
-unfolding computed step sameNumbers sameStates below verdictOf numberAt numberIn numberAnswer replayFigures replayAnswer count any breaks faultAt tableFault started keeps late improperAt improper illegalAt illegal releasedAt released keyOf key before ahead runs chosen ranAt fallen ran after missed refusal ticked played replayed
+unfolding computed step sameNumbers sameStates below verdictOf numberAt numberIn numberAnswer replayFigures replayAnswer count any breaks faultAt tableFault started keeps late improperAt improper illegalAt illegal releasedAt released jobKey key before ahead runs chosen ranAt fallen ran after missed refusal ticked played replayed
 starred-hold = refl
 
 -- the verdicts computed are those of demand 3, for any table and any K from 1 on

@@ -5,6 +5,7 @@ use mathlib.Core.Bool.{Bool, true, false, not, _&&_, _||_}
 use mathlib.Core.Logic.{⊎-elim}
 use native.Mathlib.Omega.{arith}
 use lib.Dec.{ltb}
+use lib.ListN.{getD}
 use borrow.Author.Tests.{ltb-true}
 use Rattle.lists.specs.Lists.{count}
 use Rattle.tasks.specs.State.{ready, keeps}
@@ -28,6 +29,10 @@ module _ (t : Table) (s : State) where
   runs-ready : (i : ℕ) → runs t s i ≡ true → ready s i ≡ true
   unfolding runs
   runs-ready i e = and-left (ready s i) (keeps t s i || ltb (count 8 (ahead t s i)) (t .m)) e
+
+  -- a task that runs has work left
+  pub runs-work : (i : ℕ) → runs t s i ≡ true → 0 < getD (s .c) i 0
+  runs-work i e = ltb-true 0 (getD (s .c) i 0) (runs-ready i e)
 
   fresh-few : (x : ℕ) → fresh x ≡ true → count 8 (ahead t s x) < t .m
   unfolding fresh runs

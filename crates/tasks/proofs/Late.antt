@@ -5,7 +5,7 @@ use mathlib.Core.Bool.{true, false, _&&_}
 use native.Mathlib.Omega.{arith}
 use lib.Dec.{ltb}
 use lib.ListN.{getD}
-use lib.IntN.{ℤ, negsuc}
+use lib.IntN.{ℤ, pos, negsuc, _-ℤ_}
 use borrow.Author.Tests.{ltb-true, ltb-false, lt-ltb}
 use Rattle.jobs.specs.Job.{slack}
 use Rattle.tasks.specs.Table.{tableFault}
@@ -14,8 +14,9 @@ use Rattle.tasks.specs.Tick.{bit, released, runs, after}
 use Rattle.tasks.specs.declared.state.State.{State}
 use Rattle.tasks.specs.declared.table.Table.{Table}
 use Rattle.lists.proofs.Bools.{by-bool, clash, and-left, and-right, both}
-use Rattle.jobs.proofs.Signed.{sub-lt, slack-sub, slack-late}
+use Rattle.jobs.proofs.Signed.{sub-lt, sub-same, sub-sub-pos, slack-sub, slack-late}
 use Rattle.tasks.proofs.Tables.{ordered}
+use Rattle.tasks.proofs.Choice.{runs-work}
 use Rattle.tasks.proofs.After.{work-on, work-off, gap-on, gap-off, work-ran, work-waited, gap-after}
 use Rattle.tasks.proofs.Proper.{proper-task}
 
@@ -48,6 +49,40 @@ module _ (t : Table) (s : State) (i : ℕ) where
       let d = getD (t .deadline) i 0 + getD (s .p) i 0 in
       let g = getD (t .gap) i 0 + getD (s .c) i 0 in
       ltb-false d g (by-bool (ltb d g) (λ l. clash (is-late h (ltb-true d g l)) e) (λ l. l))
+
+-- ---- the slack in a tick, from any state
+
+module _ (t : Table) (s : State) (mask : ℕ) (i : ℕ) (h : i < 8) where
+  -- LAW: the slack of a job that runs stays
+  pub slack-ran :
+      runs t (released t s mask) i ≡ true → 0 < getD (released t s mask .p) i 0 → slackAt t (after t s mask) i ≡ slackAt t (released t s mask) i
+  slack-ran r gap =
+      let D = getD (t .deadline) i 0 in
+      let P = getD (t .gap) i 0 in
+      let c = getD (released t s mask .c) i 0 in
+      let p = getD (released t s mask .p) i 0 in
+      let c′ = getD (after t s mask .c) i 0 in
+      let p′ = getD (after t s mask .p) i 0 in
+      let ran = work-ran t s mask i h r in
+      let left = runs-work t (released t s mask) i r in
+      let fell = gap-after t s mask i h in
+      slack-sub D P p′ c′ ∙ sub-same (D + p′) (P + c′) (D + p) (P + c) (omega arith) ∙ sym (slack-sub D P p c)
+
+  -- LAW: the slack of a job that waits falls by 1
+  pub slack-waited :
+      runs t (released t s mask) i ≡ false → 0 < getD (released t s mask .p) i 0 → slackAt t (after t s mask) i ≡ slackAt t (released t s mask) i -ℤ pos 1
+  slack-waited r gap =
+      let D = getD (t .deadline) i 0 in
+      let P = getD (t .gap) i 0 in
+      let c = getD (released t s mask .c) i 0 in
+      let p = getD (released t s mask .p) i 0 in
+      let c′ = getD (after t s mask .c) i 0 in
+      let p′ = getD (after t s mask .p) i 0 in
+      let same = work-waited t s mask i h r in
+      let fell = gap-after t s mask i h in
+      slack-sub D P p′ c′
+      ∙ sub-same (D + p′) (P + c′) (D + p) (P + c + 1) (omega arith)
+      ∙ sym (ap (λ z. z -ℤ pos 1) (slack-sub D P p c) ∙ sub-sub-pos (D + p) (P + c) 1)
 
 -- ---- a tick from a proper state
 

@@ -9,11 +9,11 @@ use lib.Dec.{eqb, ltb}
 use lib.ListN.{getD}
 use mir.Syntax.{w8, w16}
 use mir.Val.{Fits}
-use borrow.Author.Tests.{le-ltb, ltb-true, ltb-false}
+use borrow.Author.Tests.{le-ltb, ltb-false}
 use Rattle.lists.specs.Lists.{eight, pick}
-use Rattle.tasks.specs.State.{start, notPreempted, ready, started, keeps}
+use Rattle.tasks.specs.State.{start, notPreempted, started, keeps}
 use Rattle.tasks.specs.Tick.{bit, released, key, runs, chosen, ranAt, fallen, ran, after}
-use Rattle.jobs.specs.Job.{keyOf}
+use Rattle.jobs.specs.Job.{jobKey}
 use Rattle.jobs.specs.Place.{raised}
 use Rattle.jobs.proofs.Keys.{raised-key}
 use Rattle.cores.specs.Walk.{taken}
@@ -22,8 +22,9 @@ use Rattle.tasks.specs.Words.{wordsOf, stateOf}
 use Rattle.tasks.specs.Ticker.{baseAt, tickerOf, oldPlace, oldWord, preparedBy, selected, lowered, tickedBy}
 use Rattle.tasks.specs.declared.state.State.{State}
 use Rattle.tasks.specs.declared.table.Table.{Table}
-use Rattle.lists.proofs.Bools.{by-bool, and-left}
+use Rattle.lists.proofs.Bools.{by-bool}
 use Rattle.lists.proofs.Fill.{eight-at, eight-same}
+use Rattle.tasks.proofs.Choice.{runs-work}
 use Rattle.tasks.proofs.Place.{Bytes, taken-runs}
 use Rattle.tasks.proofs.Bits.{mask-test}
 use Rattle.tasks.proofs.InWords.{TableBytes, StateBytes, WordList, state-same, words-at, words-fit, words-state}
@@ -60,8 +61,8 @@ bits-all x h = and-mask x 8 ∙ omega arith
 -- what the two numbers of a task add to its base gives its key
 key-old :
     (policy d g p c i : ℕ) → i < 8 → Fits w8 d → Fits w8 g → Fits w8 p → Fits w8 c
-    → ((256 + bitAnd p (pick (ltb policy 2) 0 255) - bitAnd c (pick (ltb policy 4) 0 255)) * 8 + ((raised (keyOf policy d g 0 0) - 256) * 8 + i)) % 65536
-    ≡ raised (keyOf policy d g p c) * 8 + i
+    → ((256 + bitAnd p (pick (ltb policy 2) 0 255) - bitAnd c (pick (ltb policy 4) 0 255)) * 8 + ((raised (jobKey policy d g 0 0) - 256) * 8 + i)) % 65536
+    ≡ raised (jobKey policy d g p c) * 8 + i
 key-old policy d g p c i h fd fg fp fc =
     rw (raised-key policy d g 0 0 fd fg none none, raised-key policy d g p c fd fg fp fc)
     (by-bool (ltb policy 4)
@@ -113,10 +114,6 @@ word-low false c p h k = omega arith
 word-high : (r : Bool) (c p : ℕ) → c < 256 → (r ≡ true → 0 < c) → (c + 256 * p - pick r 1 0) / 256 ≡ p
 word-high true c p h k = let f = k refl in omega arith
 word-high false c p h k = omega arith
-
-runs-ready : (t : Table) (s : State) (i : ℕ) → runs t s i ≡ true → 0 < getD (s .c) i 0
-unfolding runs
-runs-ready t s i e = ltb-true 0 (getD (s .c) i 0) (and-left (ready s i) _ e)
 
 -- a run of no task
 idle-work : (s : State) (i : ℕ) → i < 8 → getD (ran s (eight (λ i. false)) .c) i 0 ≡ getD (s .c) i 0
@@ -231,11 +228,11 @@ module _ (t : Table) (v : List ℕ) (mask : ℕ) (bytes : TableBytes t) (words :
       state-same
       (eight-same (λ i. getD (tickedBy (tickerOf t) (preparedBy (tickerOf t) v) mask) i 0 % 256) (ranAt (u .c) (chosen t u)) (λ i h.
       ap (λ w. w % 256) (ticked-at i h)
-      ∙ word-low (runs t u i) (getD (u .c) i 0) (getD (u .p) i 0 - 1) (omega (arith, work-byte i h)) (runs-ready t u i)
+      ∙ word-low (runs t u i) (getD (u .c) i 0) (getD (u .p) i 0 - 1) (omega (arith, work-byte i h)) (runs-work t u i)
       ∙ ap (λ r. pick r (getD (u .c) i 0 - 1) (getD (u .c) i 0)) (sym (eight-at false (runs t u) i h))))
       (eight-same (λ i. getD (tickedBy (tickerOf t) (preparedBy (tickerOf t) v) mask) i 0 / 256) (fallen (u .p)) (λ i h.
       ap (λ w. w / 256) (ticked-at i h)
-      ∙ word-high (runs t u i) (getD (u .c) i 0) (getD (u .p) i 0 - 1) (omega (arith, work-byte i h)) (runs-ready t u i)))
+      ∙ word-high (runs t u i) (getD (u .c) i 0) (getD (u .p) i 0 - 1) (omega (arith, work-byte i h)) (runs-work t u i)))
 
 -- LAW: a tick of any state by its words
 pub ticker-state :

@@ -7,7 +7,7 @@ use lib.Dec.{eqb, ltb, leb}
 use lib.IntN.{ℤ}
 use lib.Signed.{ltZ}
 use Rattle.lists.specs.Lists.{eight, pick, count, any}
-use Rattle.jobs.specs.Job.{keyOf}
+use Rattle.jobs.specs.Job.{jobKey}
 use Rattle.tasks.specs.Table.{tableFault}
 use Rattle.tasks.specs.State.{ready, keeps, late, improper}
 use Rattle.tasks.specs.declared.state.State.{State}
@@ -49,7 +49,7 @@ lex a b rest = ltZ a b || (not (ltZ b a) && rest)
 
 -- by what the policy orders the jobs, for task i: nothing, the time left or the slack
 unfoldable pub key : Table → State → ℕ → ℤ
-key t s i = keyOf (t .policy) (getD (t .deadline) i 0) (getD (t .gap) i 0) (getD (s .p) i 0) (getD (s .c) i 0)
+key t s i = jobKey (t .policy) (getD (t .deadline) i 0) (getD (t .gap) i 0) (getD (s .p) i 0) (getD (s .c) i 0)
 
 -- the job of task j goes before that of task i: by key, then by task number; a further tie-break is one more `lex` here
 unfoldable pub before : Table → State → ℕ → ℕ → Bool

@@ -7,7 +7,7 @@ use lib.Bits.{bitAnd}
 use lib.ListN.{getD}
 use lib.Dec.{eqb, ltb}
 use Rattle.lists.specs.Lists.{eight, pick, byteOf}
-use Rattle.jobs.specs.Job.{keyOf}
+use Rattle.jobs.specs.Job.{jobKey}
 use Rattle.jobs.specs.Place.{raised}
 use Rattle.tasks.specs.State.{start, notPreempted}
 use Rattle.tasks.specs.Tick.{released, ran}
@@ -20,7 +20,7 @@ use Rattle.tasks.specs.declared.ticker.Ticker.{Ticker}
 
 -- a job's place but for what its two numbers add to it: the key of p = 0 and c = 0, raised by 256 only, and below it the task's number
 unfoldable pub baseAt : Table → ℕ → ℕ
-baseAt t i = (raised (keyOf (t .policy) (getD (t .deadline) i 0) (getD (t .gap) i 0) 0 0) - 256) * 8 + i
+baseAt t i = (raised (jobKey (t .policy) (getD (t .deadline) i 0) (getD (t .gap) i 0) 0 0) - 256) * 8 + i
 
 -- a table made ready; what a release leaves of a task is read off a state in which every task has just been released
 unfoldable pub tickerOf : Table → Ticker

@@ -15,7 +15,7 @@ impl State {
         requires { ⌜ i < 8 ⌝ }
         ensures { λ r. ⌜ (r ≡ key t self i) × (mag r < 511) ⌝ }
     {
-        jobs::key_of(t.policy, t.deadline[i], t.gap[i], self.p[i], self.c[i])
+        jobs::job_key(t.policy, t.deadline[i], t.gap[i], self.p[i], self.c[i])
     }
 
     // The place of task i.

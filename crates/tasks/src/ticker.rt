@@ -183,7 +183,7 @@ fn bases(t: Table) -> [u16; 8]
     let mut out = [0u16; 8];
     let mut i: usize = 0;
     while i < 8 {
-        let key = jobs::key_of(policy, t.deadline[i], t.gap[i], 0, 0);
+        let key = jobs::job_key(policy, t.deadline[i], t.gap[i], 0, 0);
         out[i] = less(jobs::raised(key), 256) * 8 + (i as u16);
         i += 1;
     }

@@ -3,11 +3,11 @@ use crate::number::number_len;
 use crate::number::put_number;
 use crate::table::Table;
 ghost use mathlib.Core.Path.{_≡_};
-ghost use Prim.Native.Nat.{_+_, _*_, _≤_, _<_};
+ghost use Prim.Native.Nat.{_+_, _≤_, _<_};
 ghost use lib.ListN.{length};
 ghost use lib.Seq.{sets};
 ghost use Rattle.tasks.specs.Answers.{writingAnswer};
-ghost use Rattle.tasks.specs.Sheet.{taskBytes, tasksBytes, sheetBytes, writeRefusal, writeAnswer, writeOut};
+ghost use Rattle.tasks.specs.Sheet.{taskBytes, tasksBytes, sheetBytes, writeAnswer, writeOut};
 
 // What writing a sheet answers: its length, or why it is not written.
 pub enum Writing {

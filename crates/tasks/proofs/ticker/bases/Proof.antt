@@ -17,17 +17,17 @@ abbrev μ-loop : tie.MeasureT-loop
 loop-holds : tie.Need-loop-holds Inv-loop μ-loop
 loop-holds c = (omega arith, filled-start refl)
 
-element-copy-out-key-of : tie.Need-element-copy-out-key-of Inv-loop μ-loop
-element-copy-out-key-of c = search needs
+element-copy-out-job-key : tie.Need-element-copy-out-job-key Inv-loop μ-loop
+element-copy-out-job-key c = search needs
 
-element-copy-out-key-of-2 : tie.Need-element-copy-out-key-of-2 Inv-loop μ-loop
-element-copy-out-key-of-2 c = search needs
+element-copy-out-job-key-2 : tie.Need-element-copy-out-job-key-2 Inv-loop μ-loop
+element-copy-out-job-key-2 c = search needs
 
-key-of-requires : tie.Need-key-of-requires Inv-loop μ-loop
-key-of-requires c κs = search needs
+job-key-requires : tie.Need-job-key-requires Inv-loop μ-loop
+job-key-requires c κs = search needs
 
 raised-requires : tie.Need-raised-requires Inv-loop μ-loop
-raised-requires c κs = rw (back (c .key-of .result) (c .key-of .ok)) (c .key-of .ensures .1)
+raised-requires c κs = rw (back (c .job-key .result) (c .job-key .ok)) (c .job-key .ensures .1)
 
 less-requires : tie.Need-less-requires Inv-loop μ-loop
 less-requires c κs = search needs
@@ -56,7 +56,7 @@ loop-less c = search needs
 -- the number stored is the base of task i
 base : (c : tie.After-less Inv-loop μ-loop) → c .less .result * 8 + c .before .before .before .before .before .before .loop .i ≡ baseAt (c .before .before .before .before .before .before .before .args .t1) (c .before .before .before .before .before .before .loop .i)
 unfolding baseAt
-base c = rw (c .less .ensures, c .before .raised .ensures .0, back (c .before .before .key-of .result) (c .before .before .key-of .ok), c .before .before .key-of .ensures .0)
+base c = rw (c .less .ensures, c .before .raised .ensures .0, back (c .before .before .job-key .result) (c .before .before .job-key .ok), c .before .before .job-key .ensures .0)
 
 loop-again : tie.Need-loop-again Inv-loop μ-loop
 loop-again c =
@@ -73,9 +73,9 @@ bases-spec =
     Inv-loop
     μ-loop
     loop-holds
-    element-copy-out-key-of
-    element-copy-out-key-of-2
-    key-of-requires
+    element-copy-out-job-key
+    element-copy-out-job-key-2
+    job-key-requires
     raised-requires
     less-requires
     mul-out

@@ -4,32 +4,32 @@ use Rattle.jobs.proofs.Signed.{back}
 use Rattle.tasks.proofs.state.State.key.Statement.{statement}
 use Rattle.tasks.proofs.state.State.key.Tie as tie
 
-element-copy-out-key-of : tie.Need-element-copy-out-key-of
-element-copy-out-key-of c = search needs
+element-copy-out-job-key : tie.Need-element-copy-out-job-key
+element-copy-out-job-key c = search needs
 
-element-copy-out-key-of-2 : tie.Need-element-copy-out-key-of-2
-element-copy-out-key-of-2 c = search needs
+element-copy-out-job-key-2 : tie.Need-element-copy-out-job-key-2
+element-copy-out-job-key-2 c = search needs
 
-element-copy-out-key-of-3 : tie.Need-element-copy-out-key-of-3
-element-copy-out-key-of-3 c = search needs
+element-copy-out-job-key-3 : tie.Need-element-copy-out-job-key-3
+element-copy-out-job-key-3 c = search needs
 
-element-copy-out-key-of-4 : tie.Need-element-copy-out-key-of-4
-element-copy-out-key-of-4 c = search needs
+element-copy-out-job-key-4 : tie.Need-element-copy-out-job-key-4
+element-copy-out-job-key-4 c = search needs
 
-key-of-requires : tie.Need-key-of-requires
-key-of-requires c κs = search needs
+job-key-requires : tie.Need-job-key-requires
+job-key-requires c κs = search needs
 
 returns : tie.Need-returns
 unfolding key
-returns c = rw (back (c .key-of .result) (c .key-of .ok)) (c .key-of .ensures)
+returns c = rw (back (c .job-key .result) (c .job-key .ok)) (c .job-key .ensures)
 
 pub key-spec : {M : Type 1} → statement M
 key-spec =
     tie.close
     (tie.spec
-    element-copy-out-key-of
-    element-copy-out-key-of-2
-    element-copy-out-key-of-3
-    element-copy-out-key-of-4
-    key-of-requires
+    element-copy-out-job-key
+    element-copy-out-job-key-2
+    element-copy-out-job-key-3
+    element-copy-out-job-key-4
+    job-key-requires
     returns)
