@@ -1,12 +1,11 @@
 /* The fastest native search found for the same rules. What each state's masks have in common is done once a state: a task's place in
-   the order does not depend on the mask (a releasable task, if released, has time left D), so the tasks are put in order
-   once and a mask's choice is the lowest m bits of the ready ones in that order (one pdep). The table of open addressing holds the
-   states themselves, in 8 bytes where their numbers fit in 63 bits, looked up some places behind; the full mask is tried for a miss
-   when a state is stored, and the answer waits for the end of its level. */
+   the order does not depend on the mask (a releasable task, if released, has time left D and slack D - C), so the tasks are put in
+   order once and a mask's choice is the lowest m bits of the ready ones in that order (one pdep). The table of open addressing holds
+   the states themselves, in 8 bytes where their numbers fit in 63 bits, looked up some places behind; the full mask is tried for a
+   miss when a state is stored, and the answer waits for the end of its level. */
 #include "engine.h"
 
 #include <immintrin.h>
-#include <stdbool.h>
 #include <string.h>
 #include <sys/mman.h>
 
@@ -50,8 +49,9 @@ static inline Ordered ordered(__m128i s, const Vectors *v, int policy)
     __m128i none = _mm_cmpeq_epi16(p, zero);
     __m128i ready = _mm_cmpgt_epi16(c, zero);
     __m128i bit; /* in c's byte of each task */
-    if (policy >= 2) {
+    if (policy >= NP_EDF) {
         __m128i left = _mm_add_epi16(_mm_or_si128(p, _mm_and_si128(none, v->gap)), v->shift);
+        if (policy == P_LST) left = _mm_sub_epi16(left, _mm_or_si128(c, _mm_and_si128(none, v->work)));
         __m128i key = _mm_or_si128(_mm_slli_epi16(left, 3), v->lane);
         __m256i wide = _mm256_broadcastsi128_si256(key), rank = _mm256_setzero_si256();
 #define TWO(j)                                                                                                    \
@@ -76,7 +76,7 @@ static inline Ordered ordered(__m128i s, const Vectors *v, int policy)
     o.ready = sum8(_mm_and_si128(bit, ready));
     o.started = 0;
     o.left = (1u << v->m) - 1;
-    if (policy % 2 == 0) {
+    if (keeps(policy)) {
         o.started = sum8(_mm_and_si128(bit, _mm_and_si128(ready, _mm_cmpgt_epi16(v->work, c))));
         o.ready &= ~o.started;
         o.left = (1u << (v->m - (unsigned)_mm_popcnt_u32(o.started))) - 1;
@@ -300,13 +300,15 @@ uint64_t best_verdict(const uint8_t *sheet, size_t sheet_len, uint8_t *work, siz
     v.low_bits = (unsigned)_mm_popcnt_u64(v.low);
     bool small = v.low_bits + _mm_popcnt_u64(v.high) < 64 && v.low_bits < 64;
     switch (t.policy * 2 + small) {
-    case 0: return search(&v, work, slots, trace, 0, false);
-    case 1: return search(&v, work, slots, trace, 0, true);
-    case 2: return search(&v, work, slots, trace, 1, false);
-    case 3: return search(&v, work, slots, trace, 1, true);
-    case 4: return search(&v, work, slots, trace, 2, false);
-    case 5: return search(&v, work, slots, trace, 2, true);
-    case 6: return search(&v, work, slots, trace, 3, false);
-    default: return search(&v, work, slots, trace, 3, true);
+    case 0: return search(&v, work, slots, trace, NP_GFP, false);
+    case 1: return search(&v, work, slots, trace, NP_GFP, true);
+    case 2: return search(&v, work, slots, trace, P_GFP, false);
+    case 3: return search(&v, work, slots, trace, P_GFP, true);
+    case 4: return search(&v, work, slots, trace, NP_EDF, false);
+    case 5: return search(&v, work, slots, trace, NP_EDF, true);
+    case 6: return search(&v, work, slots, trace, P_EDF, false);
+    case 7: return search(&v, work, slots, trace, P_EDF, true);
+    case 8: return search(&v, work, slots, trace, P_LST, false);
+    default: return search(&v, work, slots, trace, P_LST, true);
     }
 }

@@ -2,10 +2,16 @@
 #ifndef ENGINE_H
 #define ENGINE_H
 
+#include <stdbool.h>
 #include <stddef.h>
 #include <stdint.h>
 
 enum { SLOT = 24, MOST_SLOTS = 1000000, HEADS = 262144 };
+
+enum { NP_GFP, P_GFP, NP_EDF, P_EDF, P_LST }; /* the policies */
+
+/* Whether a started job keeps its processor. */
+static inline bool keeps(int policy) { return policy == NP_GFP || policy == NP_EDF; }
 
 typedef struct {
     uint8_t policy, m, n;

@@ -3,7 +3,6 @@
    time with COUNT for the ticks of each pass. */
 #include "engine.h"
 
-#include <stdbool.h>
 #include <string.h>
 
 #ifdef COUNT
@@ -32,24 +31,25 @@ static unsigned choose(const State *s, const Table *t)
 {
     unsigned run = 0;
     int left = t->m;
-    if (t->policy == 0 || t->policy == 2)
+    if (keeps(t->policy))
         for (int i = 0; i < t->n; i++)
             if (s->c[i] > 0 && s->c[i] < t->work[i]) {
                 run |= 1u << i;
                 left--;
             }
-    if (t->policy < 2) {
+    if (t->policy < NP_EDF) {
         for (int i = 0; i < t->n && left > 0; i++)
             if (s->c[i] > 0 && !(run >> i & 1)) {
                 run |= 1u << i;
                 left--;
             }
     } else {
+        int counted = t->policy == P_LST ? 0xFF : 0; /* the slack is the time left less the work left */
         for (; left > 0; left--) {
             int first = -1, least = 0;
             for (int i = 0; i < t->n; i++)
                 if (s->c[i] > 0 && !(run >> i & 1)) {
-                    int d = time_left(s, t, i);
+                    int d = time_left(s, t, i) - (s->c[i] & counted);
                     if (first < 0 || d < least) {
                         first = i;
                         least = d;

@@ -33,7 +33,7 @@ int read_sheet(const uint8_t *sheet, size_t len, Table *t)
     Reader r = {sheet, len, 0, 0};
     memset(t, 0, sizeof *t);
     ruled(&r, 3, 3, 3);
-    unsigned policy = ruled(&r, 0, 3, 4), m = ruled(&r, 1, 8, 5), n = ruled(&r, 1, 8, 6);
+    unsigned policy = ruled(&r, NP_GFP, P_LST, 4), m = ruled(&r, 1, 8, 5), n = ruled(&r, 1, 8, 6);
     for (unsigned i = 0; !r.refusal && i < n; i++) {
         unsigned c = number(&r), d = number(&r), p = number(&r);
         if (!r.refusal && !(1 <= c && c <= d && d <= p && p <= 200)) r.refusal = 7;

@@ -3,16 +3,16 @@
 #include "engine.h"
 
 #include <immintrin.h>
-#include <stdbool.h>
 #include <string.h>
 
 enum { BEHIND = 16, FEWEST = 1 << 12, MOST = 1 << 21 };
 
 typedef struct {
     __m128i work, gap, shift; /* shift is D - P */
-    __m128i lane;             /* the task numbers */
     __m128i limit;            /* m */
-    __m128i early, keeps;     /* all ones where the deadline orders, where a started job stays */
+    __m128i base;             /* what a task's place has from the table: its number, and 8 (D - P) where time orders */
+    __m128i early, least;     /* all ones where time orders; where that time is the slack, and the work left counts too */
+    __m128i keeps;            /* all ones where a started job stays */
     uint8_t tasks;
 } Vectors;
 
@@ -21,21 +21,23 @@ static _Alignas(16) uint16_t lanes_of[256][8];
 
 static Vectors vectors_of(const Table *t)
 {
-    _Alignas(16) int16_t work[8], gap[8], shift[8], lane[8];
+    _Alignas(16) int16_t work[8], gap[8], shift[8], base[8];
+    bool early = t->policy >= NP_EDF;
     for (int i = 0; i < 8; i++) {
         work[i] = t->work[i];
         gap[i] = t->gap[i];
         shift[i] = (int16_t)(t->deadline[i] - t->gap[i]);
-        lane[i] = (int16_t)i;
+        base[i] = (int16_t)(early ? 8 * shift[i] + i : i);
     }
     Vectors v;
     v.work = _mm_load_si128((const __m128i *)work);
     v.gap = _mm_load_si128((const __m128i *)gap);
     v.shift = _mm_load_si128((const __m128i *)shift);
-    v.lane = _mm_load_si128((const __m128i *)lane);
+    v.base = _mm_load_si128((const __m128i *)base);
     v.limit = _mm_set1_epi16(t->m);
-    v.early = _mm_set1_epi16(t->policy >= 2 ? -1 : 0);
-    v.keeps = _mm_set1_epi16(t->policy % 2 == 0 ? -1 : 0);
+    v.early = _mm_set1_epi16(early ? -1 : 0);
+    v.least = _mm_set1_epi16(t->policy == P_LST ? -1 : 0);
+    v.keeps = _mm_set1_epi16(keeps(t->policy) ? -1 : 0);
     v.tasks = (uint8_t)((1u << t->n) - 1);
     return v;
 }
@@ -51,8 +53,10 @@ static inline Pair tick(__m128i c, __m128i p, const Vectors *v, unsigned mask)
     p = _mm_or_si128(p, _mm_and_si128(out, v->gap));
     __m128i ready = _mm_cmpgt_epi16(c, zero);
     __m128i started = _mm_and_si128(v->keeps, _mm_and_si128(ready, _mm_cmpgt_epi16(v->work, c)));
-    /* A place for each task: -1 where it keeps its core, else time left times 8 plus number, or the last place where not ready. */
-    __m128i place = _mm_add_epi16(_mm_and_si128(v->early, _mm_slli_epi16(_mm_add_epi16(p, v->shift), 3)), v->lane);
+    /* A place for each task: -1 where it keeps its core, else time left (or slack) times 8 plus number, or the last place where not
+       ready. */
+    __m128i left = _mm_sub_epi16(_mm_and_si128(v->early, p), _mm_and_si128(v->least, c));
+    __m128i place = _mm_add_epi16(_mm_slli_epi16(left, 3), v->base);
     place = _mm_blendv_epi8(_mm_set1_epi16(0x7FFF), place, ready);
     place = _mm_or_si128(place, started);
     __m256i wide = _mm256_broadcastsi128_si256(place), rank = _mm256_setzero_si256();
