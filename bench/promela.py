@@ -26,6 +26,13 @@ def started(i, work):
     return f"(c[{i}] > 0 && c[{i}] < {work})" if work > 1 else "false"
 
 
+def earlier(policy, tasks, j, i):
+    """Whether job j comes before job i: less time left D - P + p, or under 4 less slack, which takes c off, then the lower number."""
+    (_, dj, gj), (_, di, gi) = tasks[j], tasks[i]
+    worki, workj = (f" + c[{i}]", f" + c[{j}]") if policy == 4 else ("", "")
+    return f"p[{j}] + {dj + gi}{worki} {'<=' if j < i else '<'} p[{i}] + {di + gj}{workj}"
+
+
 def choice(policy, m, tasks, keeps):
     """Lowers c of the running tasks."""
     lines = []
@@ -39,12 +46,11 @@ def choice(policy, m, tasks, keeps):
                 lines.append(f"if :: c[{i}] > 0 && k > 0 -> c[{i}]--; k-- :: else fi;")
     else:
         bits = []
-        for i, (w, d, g) in enumerate(tasks):
+        for i, (w, _, _) in enumerate(tasks):
             ahead = []
-            for j, (wj, dj, gj) in enumerate(tasks):
+            for j, (wj, _, _) in enumerate(tasks):
                 if j != i:
-                    less = "<=" if j < i else "<"
-                    before = f"p[{j}] + {dj + g} {less} p[{i}] + {d + gj}"
+                    before = earlier(policy, tasks, j, i)
                     if keeps and wj > 1:
                         before = f"(c[{j}] < {wj} || {before})"
                     ahead.append(f"(c[{j}] > 0 && {before} -> 1 : 0)")
