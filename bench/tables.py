@@ -5,6 +5,7 @@ from collections import namedtuple
 Bench = namedtuple("Bench", "name policy m tasks expected")  # expected: (kind, L, N), or None where only the engines must agree
 
 SAFE, UNSAFE = 1, 2
+POLICIES = ["NP-GFP", "P-GFP", "NP-EDF", "P-EDF", "P-LST"]
 
 
 def document(n, policy, expected):
@@ -18,10 +19,12 @@ DOCUMENT = [
     document(5, 1, (SAFE, 0, 23800)),
     document(5, 2, (SAFE, 0, 23881)),
     document(5, 3, (SAFE, 0, 23871)),
+    document(5, 4, (SAFE, 0, 23760)),
     document(6, 0, (SAFE, 0, 435379)),
     document(6, 1, (UNSAFE, 14, 397270)),
     document(6, 2, (SAFE, 0, 435357)),
     document(6, 3, (SAFE, 0, 428229)),
+    document(6, 4, (SAFE, 0, 402475)),
 ]
 
 
@@ -39,6 +42,8 @@ OTHERS = [
     other("G", 2, 2, (1, 3, 4), (3, 4, 9), (1, 4, 4), (2, 5, 5), (2, 6, 9), (1, 6, 6), (2, 8, 8)),
     other("H", 3, 2, (2, 3, 3), (2, 4, 4), (2, 6, 6), (1, 13, 15), (6, 18, 18)),
     other("I", 3, 3, (6, 7, 11), (5, 8, 8), (2, 9, 9), (2, 9, 9), (3, 9, 12), (2, 11, 11)),
+    other("J", 4, 3, (2, 3, 3), (3, 5, 5), (2, 7, 10), (3, 10, 10), (6, 12, 13), (6, 12, 12)),
+    other("K", 4, 2, (1, 3, 5), (1, 5, 5), (1, 5, 5), (2, 5, 5), (2, 6, 6), (2, 6, 6), (3, 9, 9)),
 ]
 
 
