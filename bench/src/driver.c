@@ -1,6 +1,7 @@
 /* Times the engines on one sheet: driver FIRST HEX. Each engine is lent the same work and trace space of 1,000,000 slots, touched
    before, and called until a fixed share of time has passed, in turn from the engine numbered FIRST on; the processor time of a
-   call is printed in nanoseconds. Every answer, slot and trace is checked first; a disagreement ends the program. */
+   call is printed in nanoseconds. Every answer, slot and trace is checked first; a disagreement ends the program. An earlier
+   library may refuse the policy that came after it, and has null in place of its time. */
 #include "timing.h"
 
 enum { WORK = SLOT * MOST_SLOTS, FILL = 0xA5 };
@@ -18,7 +19,8 @@ static const struct { const char *name; Verdict *call; } engines[] = {
 };
 enum { ENGINES = sizeof engines / sizeof engines[0] };
 
-static uint8_t *work, *trace;
+static uint8_t sheet[MOST_SHEET], *work, *trace;
+static size_t sheet_len;
 
 static uint64_t word(const uint8_t *at)
 {
@@ -39,6 +41,15 @@ static uint64_t digest(size_t n)
     return sum;
 }
 
+/* The bytes after the first slots and after the trace's first masks. */
+static void check_later(const char *name, size_t slots, size_t length)
+{
+    for (size_t i = SLOT * slots; i < WORK; i++)
+        if (work[i] != FILL) fail(name, "later work bytes changed");
+    for (size_t i = length; i < MOST_SLOTS; i++)
+        if (trace[i] != FILL) fail(name, "later trace bytes changed");
+}
+
 static void check(const char *name, const Table *t, uint64_t answer)
 {
     size_t kind = answer >> 48, length = answer >> 24 & 0xFFFFFF, n = answer & 0xFFFFFF;
@@ -53,58 +64,79 @@ static void check(const char *name, const Table *t, uint64_t answer)
         if (parent >= i || at[21] || at[22] || at[23]) fail(name, "slot not formed");
         if (step(t, work + SLOT * parent, at[20], to) != 0 || memcmp(to, at, 16) != 0) fail(name, "slot rule broken");
     }
-    for (size_t i = SLOT * n; i < WORK; i++)
-        if (work[i] != FILL) fail(name, "later work bytes changed");
+    check_later(name, n, length);
     uint8_t s[24] = {0}, to[16];
     for (size_t i = 0; i < length; i++) {
         if (step(t, s, trace[i], to) != (i + 1 == length)) fail(name, "trace does not replay");
         memcpy(s, to, 16);
     }
-    for (size_t i = length; i < MOST_SLOTS; i++)
-        if (trace[i] != FILL) fail(name, "later trace bytes changed");
+}
+
+static uint64_t call(Verdict *verdict) { return verdict(sheet, sheet_len, work, WORK, trace, MOST_SLOTS); }
+
+static uint64_t first_call(Verdict *verdict)
+{
+    memset(work, FILL, WORK);
+    memset(trace, FILL, MOST_SLOTS);
+    return call(verdict);
+}
+
+/* Whether an earlier library gives the refusal of the policy that came after it. */
+static bool refused(int e, const Table *t, uint64_t mine)
+{
+    return strcmp(engines[e].name, "before") == 0 && t->policy == P_LST && mine == packed(0, 0, 4);
+}
+
+/* The time of an engine's call after one that is checked beside the answer and states of the others, or -1 where it is refused. */
+static double checked(int e, const Table *t, uint64_t answer, uint64_t states)
+{
+    uint64_t mine = first_call(engines[e].call), free_choice = answer >> 48 == 3;
+    if (refused(e, t, mine)) {
+        check_later(engines[e].name, 0, 0);
+        return -1;
+    }
+    if (mine != answer) fail(engines[e].name, "another answer than the others");
+    check(engines[e].name, t, mine);
+    if (!free_choice && digest(mine & 0xFFFFFF) != states) fail(engines[e].name, "other states than the others");
+    double from = now();
+    call(engines[e].call);
+    return now() - from;
+}
+
+/* The time of a call, of as many as fill a share where one took `once`. */
+static double timed(int e, double once, uint64_t answer)
+{
+    int calls = calls_for(once);
+    double from = now();
+    for (int i = 0; i < calls; i++)
+        if (call(engines[e].call) != answer) fail(engines[e].name, "changed answer");
+    return (now() - from) / calls;
 }
 
 int main(int argc, char **argv)
 {
     if (argc != 3) fail("driver", "give the number of the first engine and the sheet in hexadecimal");
     int first = atoi(argv[1]);
-    uint8_t sheet[MOST_SHEET];
-    size_t len = sheet_of(argv[2], sheet);
+    sheet_len = sheet_of(argv[2], sheet);
     Table t;
-    if (read_sheet(sheet, len, &t)) fail("driver", "sheet refused");
+    if (read_sheet(sheet, sheet_len, &t)) fail("driver", "sheet refused");
     work = malloc(WORK);
     trace = malloc(MOST_SLOTS);
     if (!work || !trace) fail("driver", "no memory");
 
-    memset(work, FILL, WORK);
-    memset(trace, FILL, MOST_SLOTS);
-    uint64_t answer = counted_verdict(sheet, len, work, WORK, trace, MOST_SLOTS);
-    uint64_t states = digest(answer & 0xFFFFFF), free_choice = answer >> 48 == 3;
+    uint64_t answer = first_call(counted_verdict), states = digest(answer & 0xFFFFFF);
     check("counted", &t, answer);
-
     double once[ENGINES];
-    for (int e = 0; e < ENGINES; e++) {
-        memset(work, FILL, WORK);
-        memset(trace, FILL, MOST_SLOTS);
-        uint64_t mine = engines[e].call(sheet, len, work, WORK, trace, MOST_SLOTS);
-        if (mine != answer) fail(engines[e].name, "another answer than the others");
-        check(engines[e].name, &t, mine);
-        if (!free_choice && digest(mine & 0xFFFFFF) != states) fail(engines[e].name, "other states than the others");
-        double from = now();
-        engines[e].call(sheet, len, work, WORK, trace, MOST_SLOTS);
-        once[e] = now() - from;
-    }
+    for (int e = 0; e < ENGINES; e++) once[e] = checked(e, &t, answer, states);
 
     printf("{\"kind\":%d,\"length\":%d,\"count\":%d,\"hunt\":%llu,\"store\":%llu,\"ns\":{", (int)(answer >> 48),
            (int)(answer >> 24 & 0xFFFFFF), (int)(answer & 0xFFFFFF), (unsigned long long)hunt_ticks,
            (unsigned long long)store_ticks);
     for (int k = 0; k < ENGINES; k++) {
         int e = (k + first) % ENGINES;
-        int calls = calls_for(once[e]);
-        double from = now();
-        for (int i = 0; i < calls; i++)
-            if (engines[e].call(sheet, len, work, WORK, trace, MOST_SLOTS) != answer) fail(engines[e].name, "changed answer");
-        printf("%s\"%s\":%.0f", k ? "," : "", engines[e].name, (now() - from) / calls);
+        printf("%s\"%s\":", k ? "," : "", engines[e].name);
+        if (once[e] >= 0) printf("%.0f", timed(e, once[e], answer));
+        else printf("null");
     }
     printf("}}\n");
     return 0;
