@@ -182,8 +182,11 @@ module _ (t : Table) (v : List ℕ) (mask : ℕ) (bytes : TableBytes t) (words :
       (gap-on t start 255 i h (full i h) ∙ sym (gap-on t (stateOf v) mask i h e)))
       (λ e.
       selected-old mask (preparedBy (tickerOf t) v .place) (tickerOf t .newplace) i h e
-      ∙ eight-at 0 (λ i. oldPlace (tickerOf t .bygap) (tickerOf t .bywork) (getD (tickerOf t .kept) i 0) (getD (tickerOf t .base) i 0) (getD v i 0)) i h
-      ∙ ap₂ (λ x y. oldPlace (tickerOf t .bygap) (tickerOf t .bywork) x y (getD v i 0))
+      ∙ eight-at 0 (λ i. oldPlace (getD (tickerOf t .bygap) i 0) (getD (tickerOf t .bywork) i 0) (getD (tickerOf t .kept) i 0) (getD (tickerOf t .base) i 0) (getD v i 0)) i h
+      ∙ ap₂ (λ x y. oldPlace x y (getD (tickerOf t .kept) i 0) (getD (tickerOf t .base) i 0) (getD v i 0))
+      (eight-at 0 (λ i. pick (ltb (t .policy) 2) 0 255) i h)
+      (eight-at 0 (λ i. pick (ltb (t .policy) 4) 0 255) i h)
+      ∙ ap₂ (λ x y. oldPlace (pick (ltb (t .policy) 2) 0 255) (pick (ltb (t .policy) 4) 0 255) x y (getD v i 0))
       (eight-at 0 (λ i. pick (notPreempted t) (getD (t .work) i 0) 0) i h)
       (eight-at 0 (baseAt t) i h)
       ∙ place-old t u i (getD v i 0) h bytes (words .word i h) (work-old i h e) (gap-old i h e))

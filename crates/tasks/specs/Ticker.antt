@@ -29,11 +29,11 @@ tickerOf t =
       bits = eight (λ i. 2 ^ i);
       kept = eight (λ i. pick (notPreempted t) (getD (t .work) i 0) 0);
       base = eight (baseAt t);
+      bygap = eight (λ i. pick (ltb (t .policy) 2) 0 255);
+      bywork = eight (λ i. pick (ltb (t .policy) 4) 0 255);
       newplace = eight (place t (released t start 255));
       newword = wordsOf (ran (released t start 255) (eight (λ i. false)));
       limit = eight (λ i. pick (ltb i (t .n)) 256 0);
-      bygap = pick (ltb (t .policy) 2) 0 255;
-      bywork = pick (ltb (t .policy) 4) 0 255;
       m = t .m;
     }
 
@@ -63,7 +63,7 @@ oldWord w = w % 256 + 256 * (w / 256 - 1)
 unfoldable pub preparedBy : Ticker → List ℕ → Prepared
 preparedBy k v =
     record {
-      place = eight (λ i. oldPlace (k .bygap) (k .bywork) (getD (k .kept) i 0) (getD (k .base) i 0) (getD v i 0));
+      place = eight (λ i. oldPlace (getD (k .bygap) i 0) (getD (k .bywork) i 0) (getD (k .kept) i 0) (getD (k .base) i 0) (getD v i 0));
       word = eight (λ i. oldWord (getD v i 0));
     }
 

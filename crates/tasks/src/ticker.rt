@@ -12,17 +12,17 @@ use crate::widths::either16;
 use crate::widths::wide16;
 
 // A table made ready for many ticks. For each task: its bit in a mask; the work below which its job keeps its processor; its place but
-// for what its two numbers add to it; its place and its word in a tick that releases it; and the limit below which its word says that it
-// may be released. Then: 255 where the policy goes by the ticks until the release, 255 where it goes by the work left, and m.
+// for what its two numbers add to it; 255 where the policy goes by the ticks until the release, and 255 where it goes by the work left; its
+// place and its word in a tick that releases it; and the limit below which its word says that it may be released. Then m.
 pub struct Ticker {
     bits: [u16; 8],
     kept: [u16; 8],
     base: [u16; 8],
+    bygap: [u16; 8],
+    bywork: [u16; 8],
     newplace: [u16; 8],
     newword: [u16; 8],
     limit: [u16; 8],
-    bygap: u16,
-    bywork: u16,
     m: u16,
 }
 
@@ -95,12 +95,18 @@ fn lowered(places: [u16; 8], words: [u16; 8], m: u16) -> [u16; 8]
 
 impl Ticker {
     fn old_places(self, v: [u16; 8]) -> [u16; 8]
-        ensures { λ r. ⌜ r ≡ eight (λ i. oldPlace (self .bygap) (self .bywork) (getD (self .kept) i 0) (getD (self .base) i 0) (getD v i 0)) ⌝ }
+        ensures { λ r. ⌜ r ≡ eight (λ i. oldPlace (getD (self .bygap) i 0) (getD (self .bywork) i 0) (getD (self .kept) i 0) (getD (self .base) i 0) (getD v i 0)) ⌝ }
     {
         let mut out = [0u16; 8];
         let mut i: usize = 0;
         while i < 8 {
-            out[i] = old_place(self.bygap, self.bywork, self.kept[i], self.base[i], v[i]);
+            out[i] = old_place(
+                self.bygap[i],
+                self.bywork[i],
+                self.kept[i],
+                self.base[i],
+                v[i],
+            );
             i += 1;
         }
         out
@@ -214,11 +220,11 @@ impl Table {
             bits: [1, 2, 4, 8, 16, 32, 64, 128],
             kept: kept(self),
             base: bases(self),
+            bygap: [either16(self.policy < 2, 0, 255); 8],
+            bywork: [either16(self.policy < 4, 0, 255); 8],
             newplace: fresh.places(self),
             newword: idle.words(),
             limit: limits(self),
-            bygap: either16(self.policy < 2, 0, 255),
-            bywork: either16(self.policy < 4, 0, 255),
             m: wide16(self.m),
         }
     }

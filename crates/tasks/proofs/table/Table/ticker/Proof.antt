@@ -25,6 +25,12 @@ kept-requires c κs = search needs
 bases-requires : tie.Need-bases-requires
 bases-requires c κs = search needs
 
+either16-requires : tie.Need-either16-requires
+either16-requires c κs = search needs
+
+either16-requires-2 : tie.Need-either16-requires-2
+either16-requires-2 c κs = search needs
+
 places-requires : tie.Need-places-requires
 places-requires c κs = search needs
 
@@ -34,21 +40,16 @@ words-requires c κs = search needs
 limits-requires : tie.Need-limits-requires
 limits-requires c κs = search needs
 
-either16-requires : tie.Need-either16-requires
-either16-requires c κs = search needs
-
-either16-requires-2 : tie.Need-either16-requires-2
-either16-requires-2 c κs = search needs
-
 wide16-requires : tie.Need-wide16-requires
 wide16-requires c κs = search needs
 
 returns : tie.Need-returns
 unfolding tickerOf
 returns c =
-    let l = c .before .before .before .before .before in
-    let w = l .before in
-    let k = w .before .before .before in
+    let w = c .before .before in
+    let g = w .before .before .before .before in
+    let b = g .before .before in
+    let k = b .before in
     let r = k .before .before in
     let t = r .before .before .args .self in
     let fresh = r .release .ensures ∙ ap (λ s. released t s 255) (r .before .start .ensures) in
@@ -58,12 +59,12 @@ returns c =
     record {
       bits = eight (λ i. 2 ^ i);
       kept = k .kept .ensures j;
-      base = w .before .before .bases .ensures j;
+      base = b .bases .ensures j;
+      bygap = eight (λ i. g .either16 .ensures j);
+      bywork = eight (λ i. w .before .before .either162 .ensures j);
       newplace = place j;
       newword = word j;
-      limit = l .limits .ensures j;
-      bygap = c .before .before .before .either16 .ensures j;
-      bywork = c .before .either162 .ensures j;
+      limit = c .before .limits .ensures j;
       m = c .wide16 .ensures .0 j;
     }
 
@@ -76,10 +77,10 @@ ticker-spec =
     run-requires
     kept-requires
     bases-requires
+    either16-requires
+    either16-requires-2
     places-requires
     words-requires
     limits-requires
-    either16-requires
-    either16-requires-2
     wide16-requires
     returns)

@@ -9,7 +9,7 @@ use Rattle.tasks.proofs.ticker.Ticker.old_places.Statement.{statement}
 use Rattle.tasks.proofs.ticker.Ticker.old_places.Tie as tie
 
 abbrev Inv-loop : tie.InvT-loop
-Inv-loop self v out₀ i₀ out i = (i ≤ 8) × Filled 0 (λ i. oldPlace (self .bygap) (self .bywork) (getD (self .kept) i 0) (getD (self .base) i 0) (getD v i 0)) out i
+Inv-loop self v out₀ i₀ out i = (i ≤ 8) × Filled 0 (λ i. oldPlace (getD (self .bygap) i 0) (getD (self .bywork) i 0) (getD (self .kept) i 0) (getD (self .base) i 0) (getD v i 0)) out i
 
 abbrev μ-loop : tie.MeasureT-loop
 μ-loop self v out₀ i₀ out i = 8 - i
@@ -32,6 +32,18 @@ element-copy-out-old-place-2 c = search needs
 mul-old-place-3 : tie.Need-mul-old-place-3 Inv-loop μ-loop
 mul-old-place-3 c = search needs
 
+element-copy-out-old-place-3 : tie.Need-element-copy-out-old-place-3 Inv-loop μ-loop
+element-copy-out-old-place-3 c = search needs
+
+mul-old-place-4 : tie.Need-mul-old-place-4 Inv-loop μ-loop
+mul-old-place-4 c = search needs
+
+element-copy-out-old-place-4 : tie.Need-element-copy-out-old-place-4 Inv-loop μ-loop
+element-copy-out-old-place-4 c = search needs
+
+mul-old-place-5 : tie.Need-mul-old-place-5 Inv-loop μ-loop
+mul-old-place-5 c = search needs
+
 array-read-old-place : tie.Need-array-read-old-place Inv-loop μ-loop
 array-read-old-place c = search needs
 
@@ -51,7 +63,7 @@ loop-less : tie.Need-loop-less Inv-loop μ-loop
 loop-less c = search needs
 
 loop-again : tie.Need-loop-again Inv-loop μ-loop
-loop-again c = (omega arith, filled-store (c .before .before .before .before .loop .inv .1) (omega arith) (c .old-place .ensures))
+loop-again c = (omega arith, filled-store (c .before .before .before .before .before .before .loop .inv .1) (omega arith) (c .old-place .ensures))
 
 returns : tie.Need-returns Inv-loop μ-loop
 returns c = filled-end (c .before .loop .inv .1) (c .loop-test .left)
@@ -68,6 +80,10 @@ old-places-spec =
     mul-old-place-2
     element-copy-out-old-place-2
     mul-old-place-3
+    element-copy-out-old-place-3
+    mul-old-place-4
+    element-copy-out-old-place-4
+    mul-old-place-5
     array-read-old-place
     old-place-requires
     mul-out
