@@ -1,5 +1,5 @@
 """An independent implementation of the verdict engine's paper (document 01), in plain Python, and of
-the closed lists of document 02.
+two changes of document 02: its closed lists (§1), and its policy 4, least slack first (§3).
 
 It is written from the papers alone and shares nothing with the library: it is slow, direct, and
 meant to be read beside them. Each function's docstring names the section that it follows.
@@ -30,17 +30,23 @@ class Table(NamedTuple):
     P: tuple[int, ...]
 
 
-NP_GFP, P_GFP, NP_EDF, P_EDF = range(4)
+POLICIES = range(5)
+NP_GFP, P_GFP, NP_EDF, P_EDF, P_LST = POLICIES
 
 
 def is_preempted(table: Table) -> bool:
-    """Section "The task table": P policies are 1 and 3."""
-    return table.policy in (P_GFP, P_EDF)
+    """Section "The task table": P policies are 1 and 3; document 02, §3: so is policy 4."""
+    return table.policy in (P_GFP, P_EDF, P_LST)
 
 
 def by_deadline(table: Table) -> bool:
     """Section "The task table": EDF policies are 2 and 3."""
     return table.policy in (NP_EDF, P_EDF)
+
+
+def by_slack(table: Table) -> bool:
+    """Document 02, §3, "Least slack first": policy 4 alone."""
+    return table.policy == P_LST
 
 
 def table_of(policy: int, m: int, tasks: list[tuple[int, int, int]]) -> Table:
@@ -53,8 +59,8 @@ def table_of(policy: int, m: int, tasks: list[tuple[int, int, int]]) -> Table:
 
 def table_fault(table: Table) -> int:
     """Section "Refusals by cause", 4 to 7 for a table in memory, in that order; 0 for a valid
-    table."""
-    if table.policy > 3:
+    table. Document 02, §3: 4 means a policy above 4."""
+    if table.policy > 4:
         return 4
     if not 1 <= table.m <= 8:
         return 5
@@ -112,12 +118,13 @@ def read_number(sheet: bytes, at: int) -> tuple[int, int]:
 def read_sheet(sheet: bytes) -> Table:
     """Section "The sheet as bytes", and the order of "Refusals by cause": a sheet is judged in
     reading order, each number 1, 2, then its own rule; 7 after a task's three numbers; 8 at the
-    end. A rule is about the whole number, which goes up to 16,383."""
+    end. A rule is about the whole number, which goes up to 16,383. Document 02, §3: 4 means a policy
+    above 4."""
     fields, at = read_number(sheet, 0)
     if fields != 3:
         raise Refused(3)
     policy, at = read_number(sheet, at)
-    if policy > 3:
+    if policy > 4:
         raise Refused(4)
     m, at = read_number(sheet, at)
     if not 1 <= m <= 8:
@@ -205,7 +212,8 @@ def is_late(table: Table, state: State) -> bool:
 
 def is_proper(table: Table, state: State) -> bool:
     """Section "State": c <= C and p <= P, every task with c > 0 has slack 0 or more, tasks after
-    the nth are 0, and, under policies 0 and 2, at most m jobs are started."""
+    the nth are 0, and, under policies 0 and 2, at most m jobs are started. Under 1, 3 and 4 any
+    number may be."""
     for i in range(table.n):
         if state.c[i] > table.C[i] or state.p[i] > table.P[i]:
             return False
@@ -243,13 +251,23 @@ def release(table: Table, state: State, mask: int) -> State:
     return State(tuple(c), tuple(p))
 
 
-def choose(table: Table, state: State) -> list[int]:
-    """Section "One tick", steps 2 and 3: the tasks that run. Ready tasks have c > 0; GFP orders
-    them by task number, EDF by smaller d, then by task number. Under P the first m run. Under NP
-    every started job runs, then the unstarted ready ones in order until m run."""
-    ready = [i for i in range(TASKS) if state.c[i] > 0]
+def rank(table: Table, state: State, i: int) -> tuple[int, int]:
+    """Section "One tick", step 2, what a ready task is ordered by: GFP by task number; EDF by smaller
+    d, then by task number. Document 02, §3: policy 4 by smaller slack, then by task number."""
     if by_deadline(table):
-        ready.sort(key=lambda i: (time_left(table, state, i), i))
+        return time_left(table, state, i), i
+    if by_slack(table):
+        return slack(table, state, i), i
+    return 0, i
+
+
+def choose(table: Table, state: State) -> list[int]:
+    """Section "One tick", steps 2 and 3: the tasks that run. Ready tasks have c > 0. Under P the
+    first m of their order run. Under NP every started job runs, then the unstarted ready ones in
+    order until m run. The state is that of this tick, after its releases: document 02, §3, has the
+    choice made anew at every tick."""
+    ready = [i for i in range(TASKS) if state.c[i] > 0]
+    ready.sort(key=lambda i: rank(table, state, i))
     if is_preempted(table):
         return ready[: table.m]
     running = [i for i in ready if is_started(table, state, i)]
@@ -536,7 +554,7 @@ def check_files() -> None:
     """Document 02, of every file of some small tables: whoever made it, an accepted one means that
     no list misses, and the states of a Safe search are accepted. Then files in another order, with
     repeats, without a state, with an improper one; and the refusals."""
-    for policy, tasks in product(range(4), ([(1, 1, 2)], [(2, 2, 3)], [(1, 1, 1), (1, 1, 1)])):
+    for policy, tasks in product(POLICIES, ([(1, 1, 2)], [(2, 2, 3)], [(1, 1, 1), (1, 1, 1)])):
         table = table_of(policy, 1, tasks)
         accepted = [states for states in every_file(table) if closed(table, file_of(states))]
         found = verdict(table, MOST_SLOTS)
@@ -557,9 +575,44 @@ def check_files() -> None:
     assert refused == [9, 14, 12]
 
 
+def chosen(table: Table, masks: bytes) -> list[list[int]]:
+    """The tasks that run in each tick of a list that is kept."""
+    states = [replay(table, masks[:ticks]).state for ticks in range(len(masks))]
+    return [choose(table, release(table, state, mask)) for state, mask in zip(states, masks)]
+
+
+def check_least_slack() -> None:
+    """Document 02, §3: the refusals; any number of started jobs; a choice that changes from tick to
+    tick, as the slack of waiting jobs falls, with ties by task number; and three tasks on two cores
+    that are Safe under 4 alone."""
+    one = table_of(P_LST, 1, [(3, 9, 9), (2, 7, 7), (2, 7, 7)])
+    assert table_fault(one) == 0 and read_sheet(sheet_bytes(one)) == one
+    assert table_fault(one._replace(policy=5)) == 4
+    assert refusal(read_sheet, sheet_bytes(one._replace(policy=5))) == 4
+    started = State((2, 1, 1) + START.c[3:], (9, 7, 7) + START.p[3:])
+    assert is_proper(one, started) and not is_proper(one._replace(policy=NP_EDF), started)
+    assert chosen(one, bytes([7] + [0] * 6)) == [[1], [2], [0], [1], [2], [0], [0]]
+    assert chosen(one._replace(policy=P_EDF), bytes([7] + [0] * 6)) == [[1], [1], [2], [2], [0], [0], [0]]
+    tight = table_of(P_LST, 2, [(1, 2, 2), (1, 1, 2), (2, 2, 2)])
+    kinds = [verdict(tight._replace(policy=policy), MOST_SLOTS).kind for policy in POLICIES]
+    assert verdict(tight, 9) == ("safe", 0, 9) and kinds == ["unsafe"] * 4 + ["safe"]
+
+
+def check_beside_deadlines() -> None:
+    """Policy 4 beside 3, on every table of two tasks with P at most 3. On one core each of them keeps
+    whatever can be kept, so neither is Safe without the other. With C = 1 for both tasks the slack is
+    d - 1, so that the two choose alike."""
+    tasks = [(C, D, P) for P in (1, 2, 3) for D in range(1, P + 1) for C in range(1, D + 1)]
+    for two in product(tasks, repeat=2):
+        least, earliest = table_of(P_LST, 1, two), table_of(P_EDF, 1, two)
+        assert verdict(least, MOST_SLOTS).kind == verdict(earliest, MOST_SLOTS).kind
+        if two[0][0] == two[1][0] == 1:
+            assert list(levels(least)) == list(levels(earliest))
+
+
 def self_check() -> None:
     """Section "Benchmark tables": every entry, starred or not. Then demand 3: the levels are those
-    that replaying every list gives. Then files of states."""
+    that replaying every list gives. Then files of states, and policy 4."""
     big = MOST_SLOTS
     two = table_of(P_GFP, 1, [(1, 2, 2), (1, 2, 2)])
     assert verdict(two, big) == ("safe", 0, 4) and verdict(two, 3) == ("room", 0, 3)
@@ -581,7 +634,7 @@ def self_check() -> None:
     assert verdict(long_gap, big) == ("safe", 0, 200) and verdict(long_gap, 199) == ("room", 0, 199)
     assert refusal(read_sheet, bytes.fromhex("04010101010101")) == 3
     assert refusal(read_sheet, bytes.fromhex("03010101c901c901c901")) == 7
-    for policy in range(4):
+    for policy in POLICIES:
         for tasks in ([(1, 2, 2), (1, 2, 2)], [(1, 1, 2), (2, 4, 4)], [(2, 3, 4), (2, 5, 5)]):
             table = table_of(policy, 1, tasks)
             for level in list(levels(table))[:4]:
@@ -590,6 +643,8 @@ def self_check() -> None:
                 assert level.reached == reached
                 assert level.misses_next == (least == level.ticks + 1)
     check_files()
+    check_least_slack()
+    check_beside_deadlines()
 
 
 if __name__ == "__main__":
