@@ -314,13 +314,14 @@ def number_vectors() -> Iterator[Vector]:
 def sheet_vectors() -> Iterator[Vector]:
     # accepted
     yield sheet_vector("the paper's sheet", PAPER)
-    for policy in range(4):
+    for policy in ref.POLICIES:
         yield sheet_vector(f"two tasks, policy {policy}", sheet_bytes(table_of(policy, 1, TWO)))
     yield sheet_vector("the least numbers", sheet_of(3, 0, 1, 1, 1, 1, 1))
     yield sheet_vector("m 8, n 1", sheet_of(3, 1, 8, 1, 1, 2, 3))
     yield sheet_vector("C, D, P 127, 128, 200", sheet_of(3, 2, 2, 1, 127, 128, 200))
     yield sheet_vector("n 8, all different", sheet_bytes(table_of(2, 3, [(i, 20 * i, 25 * i) for i in range(1, 9)])))
     yield sheet_vector("the longest sheet, 52 bytes", LONGEST)
+    yield sheet_vector("the longest sheet, policy 4", LONGEST[:1] + b"\x04" + LONGEST[2:])
     # 1: the bytes end
     for length in range(len(PAPER)):
         yield sheet_vector(f"1: the paper's sheet, its first {length} bytes", PAPER[:length])
@@ -328,7 +329,8 @@ def sheet_vectors() -> Iterator[Vector]:
     yield sheet_vector("1: the longest sheet less a number", LONGEST[:-2])
     yield sheet_vector("1: one task of two", sheet_of(3, 1, 1, 2, 1, 2, 2))
     yield sheet_vector("1: the end within the field count", bytes.fromhex("83"))
-    yield sheet_vector("1: the end within the policy, which is above 3", bytes.fromhex("0384"))
+    yield sheet_vector("1: the end after policy 4", sheet_of(3, 4))
+    yield sheet_vector("1: the end within the policy, which is above 4", bytes.fromhex("0385"))
     # 2: a second byte 0 or above 127, at each place
     for place in range(10):
         for second, name in ((0, "0"), (128, "128")):
@@ -341,7 +343,7 @@ def sheet_vectors() -> Iterator[Vector]:
     for fields in (0, 2, 4, 5, 131, 259):
         yield sheet_vector(f"3: field count {fields}", sheet_of(fields, *PAPER[1:]))
     # 4: policy
-    for policy in (4, 127, 128, 255, 256, 257):
+    for policy in (5, 6, 127, 128, 132, 255, 256, 257, 260):
         yield sheet_vector(f"4: policy {policy}", sheet_of(3, policy, *PAPER[2:]))
     # 5: m
     for m in (0, 9, 129, 255, 256, 257):
@@ -379,13 +381,14 @@ def sheet_vectors() -> Iterator[Vector]:
     yield sheet_vector("8: the longest sheet and a byte, 53 bytes", LONGEST + b"\x01")
     yield sheet_vector("8: 300 bytes more", PAPER + b"\xff" * 300)
     # several faults at once: the order
-    yield sheet_vector("order: every number wrong", sheet_of(4, 4, 0, 0, 0, 0, 0))
+    yield sheet_vector("order: every number wrong", sheet_of(4, 5, 0, 0, 0, 0, 0))
     yield sheet_vector("order: field count 4 and the end", sheet_of(4))
     yield sheet_vector("order: field count not whole, 84 00", bytes.fromhex("840004"))
-    yield sheet_vector("order: policy, m and n wrong", sheet_of(3, 4, 0, 0, 0, 0, 0))
-    yield sheet_vector("order: policy 4 and the end", sheet_of(3, 4))
-    yield sheet_vector("order: policy second byte 0, and above 3", bytes.fromhex("0384000000"))
+    yield sheet_vector("order: policy, m and n wrong", sheet_of(3, 5, 0, 0, 0, 0, 0))
+    yield sheet_vector("order: policy 5 and the end", sheet_of(3, 5))
+    yield sheet_vector("order: policy second byte 0, and above 4", bytes.fromhex("0385000000"))
     yield sheet_vector("order: m and n wrong", sheet_of(3, 3, 9, 9, 0, 0, 0))
+    yield sheet_vector("order: policy 4, m and n wrong", sheet_of(3, 4, 0, 0, 0, 0, 0))
     yield sheet_vector("order: m 0 and the end", sheet_of(3, 3, 0))
     yield sheet_vector("order: n 0 and the end", sheet_of(3, 3, 1, 0))
     yield sheet_vector("order: n 0 and bytes more", sheet_of(3, 3, 1, 0, 1, 1, 1))
@@ -419,7 +422,7 @@ def table_vectors() -> Iterator[Vector]:
     yield table_vector("two tasks", two)
     yield table_vector("every number at its greatest", full)
     yield table_vector("every number at its least", table_of(0, 1, [(1, 1, 1)]))
-    for policy in (2, 3, 4, 5, 255):
+    for policy in (2, 3, 4, 5, 6, 132, 255):
         yield table_vector(f"policy {policy}", changed(two, policy=policy))
     for m in (0, 8, 9, 255):
         yield table_vector(f"m {m}", changed(two, m=m))
@@ -435,7 +438,8 @@ def table_vectors() -> Iterator[Vector]:
     yield table_vector("entry 3 of 2: D 1", changed(two, D=entry(two.D, 2, 1)))
     yield table_vector("entry 3 of 2: P 1", changed(two, P=entry(two.P, 2, 1)))
     yield table_vector("entry 8 of 2: P 255", changed(two, P=entry(two.P, 7, 255)))
-    yield table_vector("order: all wrong", Table(4, 0, 0, (1,) * 8, (0,) * 8, (0,) * 8))
+    yield table_vector("order: all wrong", Table(5, 0, 0, (1,) * 8, (0,) * 8, (0,) * 8))
+    yield table_vector("order: all wrong but policy 4", Table(4, 0, 0, (1,) * 8, (0,) * 8, (0,) * 8))
     yield table_vector("order: m, n and tasks wrong", Table(3, 9, 9, (1,) * 8, (0,) * 8, (0,) * 8))
     yield table_vector("order: n and tasks wrong", Table(3, 8, 9, (1,) * 8, (0,) * 8, (0,) * 8))
     yield table_vector("order: n 0 and no tasks", Table(0, 1, 0, (0,) * 8, (0,) * 8, (0,) * 8))
@@ -453,8 +457,10 @@ def write_vectors() -> Iterator[Vector]:
         yield write_vector(f"the shortest sheet into {length} bytes", short, length)
     yield write_vector("numbers around 128 into 16 bytes", table_of(2, 8, [(126, 127, 128), (129, 130, 200)]), 16)
     yield write_vector("n 8, all different, into 64 bytes", table_of(2, 3, [(i, 20 * i, 25 * i) for i in range(1, 9)]), 64)
-    for length in (0, 20):
+    for length in (9, 10, 11):
         yield write_vector(f"policy 4 into {length} bytes", changed(two, policy=4), length)
+    for length in (0, 20):
+        yield write_vector(f"policy 5 into {length} bytes", changed(two, policy=5), length)
         yield write_vector(f"m 0 into {length} bytes", changed(two, m=0), length)
         yield write_vector(f"n 9 into {length} bytes", changed(two, n=9), length)
         yield write_vector(f"C above D into {length} bytes", changed(two, C=entry(two.C, 0, 2)), length)
@@ -467,6 +473,8 @@ def round_vectors() -> Iterator[Vector]:
     yield round_vector("the shortest sheet", sheet_of(3, 0, 1, 1, 1, 1, 1))
     yield round_vector("n 8, all different", sheet_bytes(table_of(2, 3, [(i, 20 * i, 25 * i) for i in range(1, 9)])))
     yield round_vector("numbers around 128", sheet_of(3, 3, 8, 2, 126, 127, 128, 129, 130, 200))
+    yield round_vector("policy 4", sheet_of(3, 4, *PAPER[2:]))
+    yield round_vector("policy 5", sheet_of(3, 5, *PAPER[2:]))
     yield round_vector("a byte more", PAPER + b"\x00")
     yield round_vector("a byte less", PAPER[:-1])
     yield round_vector("a number in two bytes that one holds", bytes.fromhex("0300010281000102020404"))
@@ -497,7 +505,7 @@ class Dice:
             P = self.between(1, greatest_gap)
             D = self.between(1, P)
             tasks.append((self.between(1, (D + load - 1) // load), D, P))
-        return table_of(self.below(4), self.between(1, 4), tasks)
+        return table_of(self.below(len(ref.POLICIES)), self.between(1, 4), tasks)
 
     def proper_state(self, table: Table) -> State:
         """A proper state, reached or not; the start state if none was found."""
@@ -527,7 +535,7 @@ def state_of(*tasks: tuple[int, int]) -> State:
     return State(tuple(c for c, _ in rows), tuple(p for _, p in rows))
 
 
-NAMES = ("NP-GFP", "P-GFP", "NP-EDF", "P-EDF")
+NAMES = ("NP-GFP", "P-GFP", "NP-EDF", "P-EDF", "P-LST")
 
 
 def choice_vectors(policy: int, name: str) -> Iterator[Vector]:
@@ -547,9 +555,61 @@ def choice_vectors(policy: int, name: str) -> Iterator[Vector]:
     yield tick_vector(f"{name}: d 50 three times", spread, state_of((0, 0), (1, 50), (1, 100), (1, 200)), 0)
 
 
+def slack_vectors(policy: int, name: str) -> Iterator[Vector]:
+    """The choice where least slack and the other orders part, and where slacks are equal."""
+    two = table_of(policy, 1, [(5, 9, 9), (5, 9, 9)])
+    for label, first, second in (
+        ("slack 2 with d 3, slack 1 with d 6", (1, 3), (5, 6)),
+        ("slack 1 with d 6, slack 2 with d 3", (5, 6), (1, 3)),
+        ("slack 3 twice, d 8 and 4", (5, 8), (1, 4)),
+        ("slack 3 twice, d 4 and 8", (1, 4), (5, 8)),
+        ("slack 0 twice", (2, 2), (1, 1)),
+        ("slack 1 and 0, d equal", (2, 3), (3, 3)),
+        ("slack 0 and 1, d equal", (3, 3), (2, 3)),
+    ):
+        yield tick_vector(f"{name}: {label}", two, state_of(first, second), 0)
+    five = table_of(policy, 2, [(4, 9, 9)] * 5)
+    ties = state_of((4, 9), (2, 7), (1, 6), (3, 5), (2, 4))
+    yield tick_vector(f"{name}: slacks 5, 5, 5, 2, 2, two cores", five, ties, 0)
+    yield tick_vector(f"{name}: slacks 5, 5, 5, 2, 2, three cores", changed(five, m=3), ties, 0)
+    yield tick_vector(f"{name}: slacks 5, 5, 5, 2, 2, four cores", changed(five, m=4), ties, 0)
+    # a job that is released now, beside one that waits: the slack is that after the release
+    fresh = table_of(policy, 1, [(2, 6, 9), (4, 9, 12)])
+    for p, label in ((12, "more than"), (11, "equal to"), (10, "less than")):
+        yield tick_vector(f"{name}: the slack of a waiting job {label} a new one's", fresh, state_of((0, 0), (4, p)), 1)
+    late = table_of(policy, 1, [(4, 9, 12), (2, 6, 9)])
+    for p, label in ((12, "more than"), (11, "equal to"), (10, "less than")):
+        yield tick_vector(f"{name}: the slack of a lower number {label} a new one's", late, state_of((4, p), (0, 0)), 2)
+    # slacks that a signed byte does not hold
+    wide = table_of(policy, 1, [(1, 200, 200), (72, 200, 200), (73, 200, 200), (199, 200, 200)])
+    for mask in (3, 5, 6, 9, 15):
+        yield tick_vector(f"{name}: slacks 199, 128, 127, 1, mask {mask}", wide, START, mask)
+    # more jobs with slack 0 than cores: those that wait are late
+    tight = table_of(policy, 2, [(3, 5, 5), (2, 2, 4), (1, 1, 3), (2, 6, 6)])
+    none_left = state_of((3, 3), (2, 4), (1, 3), (1, 6))
+    yield tick_vector(f"{name}: three of slack 0, two cores", tight, none_left, 0)
+    yield tick_vector(f"{name}: three of slack 0, three cores", changed(tight, m=3), none_left, 0)
+    yield tick_vector(f"{name}: three of slack 0, one core", changed(tight, m=1), none_left, 0)
+
+
+def turn_vectors(policy: int, name: str) -> Iterator[Vector]:
+    """Ticks one after the other: the slack of a job that waits falls until it has another's processor."""
+    for label, table, mask in (
+        ("three jobs, one core", table_of(policy, 1, [(3, 9, 9), (2, 7, 7), (2, 7, 7)]), 7),
+        ("four jobs, two cores", table_of(policy, 2, [(2, 8, 8), (4, 9, 9), (3, 7, 7), (2, 6, 6)]), 15),
+    ):
+        state = START
+        for number in range(1, 7):
+            yield tick_vector(f"{name}: {label}, tick {number}", table, state, mask)
+            (missed, state), mask = ref.tick(table, state, mask), 0
+            assert not missed
+
+
 def tick_vectors() -> Iterator[Vector]:
     for policy, name in enumerate(NAMES):
         yield from choice_vectors(policy, name)
+        yield from slack_vectors(policy, name)
+        yield from turn_vectors(policy, name)
         table = table_of(policy, 1, TWO)
         yield tick_vector(f"{name}: nothing to do", table, START, 0)
         yield tick_vector(f"{name}: C = D = P = 1 released", table_of(policy, 1, [(1, 1, 1)]), START, 1)
@@ -611,7 +671,7 @@ def tick_vectors() -> Iterator[Vector]:
     # the order of refusals
     bad_state, bad_mask = state_of((9, 9)), 128
     table = table_of(0, 1, TWO)
-    for policy, m, n in ((4, 0, 0), (0, 0, 0), (0, 1, 0), (0, 1, 3)):
+    for policy, m, n in ((5, 0, 0), (4, 0, 0), (0, 0, 0), (0, 1, 0), (4, 1, 0), (0, 1, 3)):
         wrong = changed(table, policy=policy, m=m, n=n)
         yield tick_vector(f"order: policy {policy}, m {m}, n {n}, state and mask wrong", wrong, bad_state, bad_mask)
     yield tick_vector("order: an entry after the nth, state and mask wrong", changed(table, P=entry(table.P, 7, 1)), bad_state, bad_mask)
@@ -619,7 +679,7 @@ def tick_vectors() -> Iterator[Vector]:
     yield tick_vector("order: mask wrong", table, START, bad_mask)
     # drawn ones
     dice = Dice(1)
-    for number in range(60):
+    for number in range(75):
         table = dice.table((4, 12, 200)[number % 3])
         state = dice.proper_state(table)
         mask = dice.below(256) if number % 10 == 9 else dice.legal_mask(table, state)
@@ -643,6 +703,52 @@ def drawn_masks(dice: Dice, table: Table, length: int) -> bytes:
     return bytes(masks)
 
 
+# Tables that tell least slack from earliest deadline: the cores, the tasks, and how policies 3 and 4 answer.
+PARTED = [
+    (2, [(1, 2, 2), (1, 1, 2), (2, 2, 2)], "unsafe 1 1", "safe 9"),
+    (3, [(1, 2, 2), (2, 2, 2), (1, 1, 2), (1, 1, 1)], "unsafe 1 1", "safe 10"),
+    (2, [(2, 3, 3), (1, 1, 3), (1, 2, 2), (1, 1, 2)], "unsafe 3 41", "safe 44"),
+    (2, [(2, 2, 5), (2, 3, 3), (2, 4, 4), (1, 2, 3)], "safe 240", "unsafe 8 229"),
+    (2, [(2, 4, 5), (3, 5, 5), (2, 2, 4), (1, 2, 3)], "safe 453", "unsafe 11 420"),
+    (2, [(2, 3, 3), (1, 2, 2), (1, 1, 2)], "safe 14", "safe 12"),
+    (2, [(2, 3, 3), (1, 2, 3), (3, 4, 4)], "safe 44", "safe 47"),
+    (2, [(2, 3, 4), (1, 2, 2), (2, 4, 4), (1, 1, 2)], "safe 100", "safe 115"),
+    (2, [(1, 2, 2), (2, 2, 2), (1, 1, 1)], "unsafe 1 1", "unsafe 2 5"),
+    (2, [(2, 2, 4), (2, 3, 3), (2, 4, 4), (1, 2, 3)], "unsafe 7 192", "unsafe 6 183"),
+    (2, [(2, 3, 3), (2, 4, 4), (1, 1, 1)], "unsafe 8 30", "unsafe 8 29"),
+    (1, [(1, 3, 3), (3, 4, 4)], "unsafe 10 19", "unsafe 12 21"),
+    (1, [(3, 7, 7), (2, 5, 5)], "safe 35", "safe 35"),
+]
+
+
+def shortest_miss(table: Table) -> bytes:
+    """A shortest list that misses, for a table that is Unsafe."""
+    lists, reached = {START: b""}, [START]
+    for state in reached:  # which grows meanwhile
+        for mask, missed, after in ref.successors(table, state):
+            if missed:
+                return lists[state] + bytes([mask])
+            if after not in lists:
+                lists[after] = lists[state] + bytes([mask])
+                reached.append(after)
+    raise AssertionError(table)
+
+
+def parted_replays() -> Iterator[Vector]:
+    """Lists that miss under one of earliest deadline and least slack, played under both."""
+    for m, tasks, *answers in PARTED:
+        tables = [table_of(policy, m, tasks) for policy in (ref.P_EDF, ref.P_LST)]
+        for table, found in zip(tables, answers):
+            if not found.startswith("unsafe"):
+                continue
+            masks = shortest_miss(table)
+            played = ref.replay(table, masks)
+            assert (played.answer, played.tick, len(masks)) == ("missed", *[int(found.split()[1])] * 2)
+            for other in tables:
+                label = f"{tasks} on {m}, a list that misses under {NAMES[table.policy]}"
+                yield replay_vector(f"{NAMES[other.policy]}: {label}", other, masks)
+
+
 def replay_vectors() -> Iterator[Vector]:
     for policy, name in enumerate(NAMES):
         two = table_of(policy, 1, TWO)
@@ -661,17 +767,22 @@ def replay_vectors() -> Iterator[Vector]:
         yield replay_vector(f"{name}: eight tasks on eight cores", table_of(policy, 8, [(i, i, i + 1) for i in range(1, 9)]), bytes([255, 0, 1, 2, 5, 8, 16, 32]))
         yield replay_vector(f"{name}: D below P, waiting after the finish", table_of(policy, 1, [(1, 2, 10), (1, 3, 10)]), bytes([3] + [0] * 9 + [3]))
         yield replay_vector(f"{name}: m above n", table_of(policy, 5, [(3, 3, 3), (2, 2, 2)]), bytes([3, 0, 2, 1, 2]))
+        turns = table_of(policy, 1, [(3, 9, 9), (2, 7, 7), (2, 7, 7)])
+        yield replay_vector(f"{name}: three jobs whose slacks cross, three ticks", turns, bytes([7, 0, 0]))
+        yield replay_vector(f"{name}: three jobs whose slacks cross, one of them twice", turns, bytes([7] + [0] * 6 + [2, 0]))
+    yield from parted_replays()
     # a tick number that one byte does not hold
     full = table_of(3, 1, [(2, 3, 3), (2, 3, 3)])
     yield replay_vector("a miss at tick 258", full, bytes(256) + b"\x03" + bytes(10))
     table = table_of(0, 1, TWO)
     for masks, name in ((b"", "the empty list"), (b"\x04", "a bit for no task")):
         yield replay_vector(f"policy 4, {name}", changed(table, policy=4), masks)
+        yield replay_vector(f"policy 5, {name}", changed(table, policy=5), masks)
         yield replay_vector(f"m 9, {name}", changed(table, m=9), masks)
         yield replay_vector(f"n 0, {name}", changed(table, n=0), masks)
         yield replay_vector(f"an entry after the nth, {name}", changed(table, C=entry(table.C, 7, 1)), masks)
     dice = Dice(2)
-    for number in range(12):
+    for number in range(15):
         table = dice.table((4, 12, 200)[number % 3])
         yield replay_vector(f"drawn {number + 1}", table, drawn_masks(dice, table, 12))
 
@@ -706,6 +817,14 @@ MISSES = [
     (3, 10, [(1, 2, 3), (1, 1, 3), (4, 10, 13)]),
     (3, 12, [(4, 4, 4), (4, 15, 18)]),
     (3, 13, [(1, 1, 2), (7, 13, 16)]),
+    (4, 2, [(6, 6, 11), (3, 4, 10)]),
+    (4, 4, [(1, 2, 2), (9, 10, 11)]),
+    (4, 5, [(1, 2, 3), (4, 5, 9)]),
+    (4, 6, [(1, 2, 2), (2, 3, 3)]),
+    (4, 8, [(1, 2, 3), (3, 4, 4)]),
+    (4, 10, [(1, 2, 2), (3, 5, 5)]),
+    (4, 12, [(1, 3, 3), (3, 4, 4)]),
+    (4, 13, [(4, 6, 7), (2, 3, 5)]),
 ]
 
 
@@ -772,7 +891,7 @@ def refused_sheets(sheet: bytes) -> tuple[tuple[int, bytes], ...]:
         (1, sheet[:-1]),
         (2, sheet[:-1] + b"\x84\x00"),
         (3, sheet_of(2, *sheet[1:])),
-        (4, sheet_of(3, 4, *sheet[2:])),
+        (4, sheet_of(3, 5, *sheet[2:])),
         (5, sheet_of(*sheet[:2], 9, *sheet[3:])),
         (6, sheet_of(*sheet[:3], 0, *sheet[4:])),
         (7, sheet_of(*sheet[:-1], sheet[-1] - 1)),
@@ -815,15 +934,33 @@ def policy_searches() -> Iterator[Search]:
 
 def miss_searches() -> Iterator[Search]:
     """Shortest lists of 1 to 14 ticks. A task that is released at every tick starves another."""
-    starved = [(policy, L, [(1, 1, 1), (1, L, L)]) for L in (1, 11, 14) for policy in range(4)]
+    starved = [(policy, L, [(1, 1, 1), (1, L, L)]) for L in (1, 11, 14) for policy in ref.POLICIES]
     for policy, L, tasks in MISSES + starved:
         search = of_table(f"{NAMES[policy]} {tasks}, L {L}", policy, 1, tasks)
         assert ref.search_sheet(search.sheet, WORK, TRACE).L == L, search.label
         yield search.with_slots(count_of(search))
 
 
+def answer(found: ref.Verdict) -> str:
+    return f"{found.kind} {found.L} {found.N}" if found.kind == "unsafe" else f"{found.kind} {found.N}"
+
+
+def parted_searches() -> Iterator[Search]:
+    """Least slack and earliest deadline on tables that tell them apart: in the verdict, L, the count or the states."""
+    for m, tasks, *answers in PARTED:
+        states = []
+        for policy, expected in zip((ref.P_EDF, ref.P_LST), answers):
+            search = of_table(f"{NAMES[policy]} {tasks} on {m}", policy, m, tasks)
+            found = ref.search_sheet(search.sheet, WORK, TRACE)
+            assert answer(found) == expected, search.label
+            states.append(ref.stored_states(table_of(policy, m, tasks), found))
+            yield search
+            yield from (search.with_slots(K) for K in (found.N - 1, found.N) if K)
+        assert states[0] != states[1], tasks
+
+
 def search_vectors() -> Iterator[Vector]:
-    for searches in (benchmark_searches, space_searches, refused_searches, policy_searches, miss_searches):
+    for searches in (benchmark_searches, space_searches, refused_searches, policy_searches, miss_searches, parted_searches):
         yield from (search_vector(*search) for search in searches())
 
 
@@ -999,7 +1136,7 @@ def superset_files() -> Iterator[File]:
 
 def unsafe_files() -> Iterator[File]:
     """The states of Unsafe searches, and all that is reached without a miss: proper, and nothing wrong but misses."""
-    paper = [(policy, [(2, 2, 2), (1, 2, 2)]) for policy in range(4)] + [(0, [(1, 1, 2), (2, 4, 4)])]
+    paper = [(policy, [(2, 2, 2), (1, 2, 2)]) for policy in ref.POLICIES] + [(0, [(1, 1, 2), (2, 4, 4)])]
     for policy, tasks in paper + [(policy, tasks) for policy, _, tasks in MISSES]:
         table = table_of(policy, 1, tasks)
         kept = with_steps(table, [START])
@@ -1026,8 +1163,8 @@ def length_files() -> Iterator[File]:
 def foreign_files() -> Iterator[File]:
     """The file of one table judged for another: of each policy for each, whose states all differ, and with one number
     of the table another."""
-    tables = [table_of(policy, 1, [(2, 6, 6), (2, 4, 4)]) for policy in range(4)]
-    assert len({tuple(safe_states(table)) for table in tables}) == 4
+    tables = [table_of(policy, 1, [(3, 7, 7), (2, 5, 5)]) for policy in ref.POLICIES]
+    assert len({tuple(safe_states(table)) for table in tables}) == len(NAMES)
     for maker, judge in product(tables, repeat=2):
         yield file_of(f"the file of {NAMES[maker.policy]} for {NAMES[judge.policy]}", judge, safe_states(maker))
     table = table_of(3, 1, [(1, 2, 3), (2, 4, 5)])
@@ -1046,10 +1183,22 @@ def foreign_files() -> Iterator[File]:
         yield file_of(f"the file of another table: {label}", other, safe_states(table))
 
 
+def parted_files() -> Iterator[File]:
+    """The file of a table under earliest deadline or least slack, judged for both; of 240 states at most, for a body."""
+    for m, tasks, *answers in PARTED:
+        for policy, found in zip((ref.P_EDF, ref.P_LST), answers):
+            if not found.startswith("safe") or int(found.split()[1]) > 240:
+                continue
+            own = safe_states(table_of(policy, m, tasks))
+            for judge in (ref.P_EDF, ref.P_LST):
+                label = f"{tasks} on {m}, the file of {NAMES[policy]} for {NAMES[judge]}"
+                yield file_of(label, table_of(judge, m, tasks), own)
+
+
 def drawn_files() -> Iterator[File]:
     """Files of drawn tables: shuffled, then without a state, with a byte changed, or with states that none reaches."""
     dice, number = Dice(3), 0
-    while number < 24:
+    while number < 30:
         table = dice.table(8)
         if not 2 <= (verdict := ref.verdict(table, 40)).N <= 40 or verdict.kind != "safe":
             continue
@@ -1068,8 +1217,8 @@ def drawn_files() -> Iterator[File]:
 
 
 def closed_vectors() -> Iterator[Vector]:
-    makers = (order_files, mask_files, changed_files, improper_files, superset_files, unsafe_files, length_files, foreign_files, drawn_files)
-    for files in makers:
+    by_state = (order_files, mask_files, changed_files, improper_files, superset_files, unsafe_files)
+    for files in (*by_state, length_files, foreign_files, parted_files, drawn_files):
         yield from (closed_vector(label, sheet_bytes(table), data) for label, table, data in files())
     # a sheet's refusal comes before 14
     two = table_of(1, 1, TWO)
@@ -1087,6 +1236,7 @@ def file_vectors() -> Iterator[Vector]:
     for data, name in ((own, "a closed file"), (own[16:], "another file"), (b"", "no file"), (own[:17], "17 bytes")):
         yield file_vector(f"two tasks, {name}", two, data)
         yield file_vector(f"policy 4, {name}", changed(two, policy=4), data)
+        yield file_vector(f"policy 5, {name}", changed(two, policy=5), data)
         yield file_vector(f"m 0, {name}", changed(two, m=0), data)
         yield file_vector(f"m 9, {name}", changed(two, m=9), data)
         yield file_vector(f"n 0, {name}", changed(two, n=0), data)
@@ -1094,7 +1244,7 @@ def file_vectors() -> Iterator[Vector]:
         yield file_vector(f"C above D, {name}", changed(two, C=entry(two.C, 1, 3)), data)
         yield file_vector(f"n 1 before two tasks, {name}", changed(two, n=1), data)
         yield file_vector(f"an entry after the nth, {name}", changed(two, P=entry(two.P, 7, 1)), data)
-        yield file_vector(f"order: all wrong, {name}", Table(4, 0, 0, (1,) * 8, (0,) * 8, (0,) * 8), data)
+        yield file_vector(f"order: all wrong, {name}", Table(5, 0, 0, (1,) * 8, (0,) * 8, (0,) * 8), data)
     for label, table, data in improper_files():
         yield file_vector(label, table, data)
 
