@@ -45,13 +45,20 @@ extern "C" {
 /* A sheet is a series of numbers:
  *
  *   3                                     the fields of each task
- *   policy                                0 NP-GFP, 1 P-GFP, 2 NP-EDF, 3 P-EDF
+ *   policy                                0 NP-GFP, 1 P-GFP, 2 NP-EDF, 3 P-EDF, 4 P-LST
  *   m                                     processors, 1 to 8
  *   n                                     tasks, 1 to 8
  *   C, D, P of task 1, .., of task n      work, deadline and least gap in ticks, 1 <= C <= D <= P <= 200
  *
- * and nothing after it. (NP: a started job is not preempted; P: it may be. GFP: fixed priority, task 1 first; EDF: earliest
- * deadline first, then the lower task number.)
+ * and nothing after it. P: at every tick the first m ready jobs of the order run. NP: a started job is not preempted; the first
+ * of the others get the processors that are left. The order:
+ *
+ *   GFP   fixed priority: by task number
+ *   EDF   earliest deadline first: by smaller time left, then by task number
+ *   LST   least slack first: by smaller slack, then by task number, anew at every tick
+ *
+ * The time left of a job is D less the ticks since its release, and its slack is the time left less the work left. So the slack
+ * of a job that waits falls by 1 a tick; below 0 it is a miss.
  *
  * A number is written in groups of seven bits, low group first, a byte each, with the top bit set when another group follows:
  * one byte below 128, else two. So 4 is 04, and 200 = 1 * 128 + 72 is C8 01 (72 is 48 hexadecimal, C8 with the top bit set).
@@ -78,7 +85,7 @@ extern "C" {
  *    1  the sheet ends before a number is complete; ronchhek_write: the table is shorter than 27 bytes
  *    2  a number's second byte is 0 or above 127
  *    3  the field count is not 3
- *    4  the policy is above 3
+ *    4  the policy is above 4
  *    5  the processors are not 1 to 8
  *    6  the tasks are not 1 to 8
  *    7  a task breaks 1 <= C <= D <= P <= 200; ronchhek_write: or an entry after the last task is not 0
