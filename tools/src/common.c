@@ -92,7 +92,13 @@ struct bytes read_sheet(const char *path)
     return read_bytes(path, 64);
 }
 
-const char *const policy_names[POLICIES] = {"NP-GFP", "P-GFP", "NP-EDF", "P-EDF"};
+const struct policy policies[POLICIES] = {
+    {"NP-GFP", "fixed priority, not preempted"},
+    {"P-GFP", "fixed priority, preempted"},
+    {"NP-EDF", "earliest deadline first, not preempted"},
+    {"P-EDF", "earliest deadline first, preempted"},
+    {"P-LST", "least slack first, preempted"},
+};
 
 const char *reason(unsigned refusal)
 {
@@ -100,7 +106,7 @@ const char *reason(unsigned refusal)
         [1] = "the sheet ends before a number is complete",
         [2] = "a number's second byte is 0 or above 127",
         [3] = "the field count is not 3",
-        [4] = "the policy is above 3",
+        [4] = "the policy is above 4",
         [5] = "the processors are not 1 to 8",
         [6] = "the tasks are not 1 to 8",
         [7] = "a task breaks 1 <= C <= D <= P <= 200",

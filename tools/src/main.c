@@ -28,9 +28,9 @@ static const struct command {
      "    The table of a sheet in words, or `refused R` and a line that says why.\n",
      show},
     {"make", "POLICY M C,D,P .. [-o FILE]",
-     "    Writes the sheet of a table: a policy (0 to 3, or np-gfp, p-gfp, np-edf, p-edf), M processors, and for each task its\n"
-     "    work, deadline and least gap, all 0 to 255. Without -o, or for -o -, the bytes go to standard output, which must\n"
-     "    not be a terminal. A table that the library refuses gives `refused R` and a line that says why on standard error, and no sheet.\n",
+     "    Writes the sheet of a table: a policy (0 to 4, or np-gfp, p-gfp, np-edf, p-edf, p-lst), M processors, and for each\n"
+     "    task its work, deadline and least gap, all 0 to 255. Without -o, or for -o -, the bytes go to standard output, which\n"
+     "    must not be a terminal. A table that the library refuses gives `refused R` and a line that says why on standard error, and no sheet.\n",
      make},
 };
 enum { COMMANDS = sizeof commands / sizeof *commands };

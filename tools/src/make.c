@@ -15,10 +15,10 @@ enum { TASKS = 8, FIELDS = 3 };
 static uint8_t policy_of(const char *text)
 {
     for (unsigned i = 0; i < POLICIES; i++)
-        if (strcasecmp(text, policy_names[i]) == 0)
+        if (strcasecmp(text, policies[i].name) == 0)
             return (uint8_t)i;
     if (text[0] < '0' || text[0] > '9')
-        fail("policy: `%s` is not 0 to 3 or one of np-gfp, p-gfp, np-edf, p-edf", text);
+        fail("policy: `%s` is not 0 to 4 or one of np-gfp, p-gfp, np-edf, p-edf, p-lst", text);
     return (uint8_t)number("policy", text, 255);
 }
 

@@ -7,8 +7,10 @@
 static void print_table(const uint8_t *table)
 {
     unsigned policy = table[0], processors = table[1], tasks = table[2];
-    printf("policy %u, %s: %s, %s\n", policy, policy < POLICIES ? policy_names[policy] : "unknown",
-           policy & 2 ? "earliest deadline first" : "fixed priority", policy & 1 ? "preempted" : "not preempted");
+    if (policy < POLICIES)
+        printf("policy %u, %s: %s\n", policy, policies[policy].name, policies[policy].words);
+    else
+        printf("policy %u, unknown\n", policy);
     printf("processors %u\n", processors);
     printf("tasks %u\n", tasks);
     for (unsigned i = 0; i < tasks; i++) {

@@ -45,9 +45,11 @@ struct bytes read_sheet(const char *path);
 /* Writes the states of a Safe search, those of its first `count` slots, to a file: all of them, or fails and leaves what was there. */
 void write_evidence(const char *path, const uint8_t *work, size_t work_len, size_t count);
 
-/* The names of the policies, by number. */
-enum { POLICIES = 4 };
-extern const char *const policy_names[POLICIES];
+/* The policies by number: what they are called, and what they do. */
+enum { POLICIES = 5 };
+extern const struct policy {
+    const char *name, *words;
+} policies[POLICIES];
 
 /* What a refusal says. */
 const char *reason(unsigned refusal);
