@@ -1,6 +1,6 @@
 //! Differential test: the library's calls against the independent implementation of model.rs.
 //!
-//!     differ [--seed S] [--sheets N] [--case I] [--fault 1..15] [--corpus DIR]
+//!     differ [--seed S] [--sheets N] [--case I] [--fault 1..21] [--corpus DIR]
 //!
 //! Prints its seed, and at the end what was met. Ends with status 1 at the first difference.
 //! `--case I` runs that sheet of the seed alone. `--fault` seeds a mistake in the independent side.
@@ -15,7 +15,7 @@ mod model;
 mod rng;
 
 use check::{Called, Searched, SLOT};
-use model::{End, Levels, Model, Replay, Table, Verdict, TABLE};
+use model::{End, Levels, Model, Replay, Table, Verdict, POLICIES, TABLE};
 use rng::Rng;
 use std::collections::{BTreeMap, HashSet};
 
@@ -109,6 +109,16 @@ struct Subject {
     levels: Option<Levels>,
 }
 
+impl Subject {
+    /// What was met, with the policy of the sheet that was accepted.
+    fn under(&self, what: &str) -> String {
+        match &self.reading {
+            Ok(t) => format!("{what} under policy {}", t.policy),
+            Err(_) => what.to_string(),
+        }
+    }
+}
+
 /// What a judged search left.
 struct Found {
     kind: u64,
@@ -164,9 +174,9 @@ impl Run {
         self.met.add("calls of the search");
         self.met.add(&match answer >> 48 {
             0 => format!("search refused {:2}", answer & 0xFF_FFFF),
-            1 => "Safe".to_string(),
-            2 => "Unsafe".to_string(),
-            _ => "No room".to_string(),
+            1 => s.under("Safe"),
+            2 => s.under("Unsafe"),
+            _ => s.under("No room"),
         });
         let masks = if answer >> 48 == 2 { (answer >> 24 & 0xFF_FFFF) as usize } else { 0 };
         self.met.greatest("is the greatest L", masks);
@@ -213,8 +223,8 @@ impl Run {
             self.met.add("replay refused 11 with a state space too short");
         }
         self.met.add(&match outcome {
-            Ok(Replay::Kept(_)) => "replay Kept".to_string(),
-            Ok(Replay::Missed(..)) => "replay Missed".to_string(),
+            Ok(Replay::Kept(_)) => s.under("replay Kept"),
+            Ok(Replay::Missed(..)) => s.under("replay Missed"),
             Ok(Replay::Illegal(_)) => "replay refused 11".to_string(),
             Err(n) => format!("replay refused {n:2}"),
         });
@@ -267,6 +277,9 @@ impl Run {
         let mut out = Lent::new(r, out_len);
         let answer = calls::write(table, out.space());
         let bytes = self.m.sheet_of_table(table);
+        if bytes == Err(4) && table[0] == POLICIES {
+            self.met.add("tables refused 4, for policy 5");
+        }
         self.written(r, "write", out, answer, bytes).map_err(|e| format!("table {table:?}: {e}"))
     }
 
@@ -397,11 +410,23 @@ impl Run {
         Ok(())
     }
 
+    /// Counts the tables of policy 4 that tell least slack from earliest deadline.
+    fn told_apart(&mut self, t: &Table, least: &Levels) {
+        let earliest = self.m.levels(&Table { policy: 3, ..t.clone() }, LIMIT);
+        if earliest.depth != least.depth {
+            self.met.add("sheets of policy 4 with other states under policy 3");
+        }
+        if earliest.end != least.end {
+            self.met.add("sheets of policy 4 with another end under policy 3");
+        }
+    }
+
     /// One generated sheet, with spaces at every edge.
     fn case(&mut self, r: &mut Rng, sheet: Vec<u8>) -> Result<(), String> {
         let s = self.subject(sheet, LIMIT);
         self.met.add(&match &s.reading {
             Ok(t) => format!("sheets of policy {}", t.policy),
+            Err(4) if s.sheet[1] == POLICIES => "sheets refused 4, for policy 5".to_string(),
             Err(n) => format!("sheets refused {n}"),
         });
         self.exchange(r, &s)?;
@@ -415,6 +440,9 @@ impl Run {
             }
             return self.replays(r, &s, &[]);
         };
+        if let Ok(t @ Table { policy: 4, .. }) = &s.reading {
+            self.told_apart(t, levels);
+        }
         let mut sizes = vec![0, 1];
         let last = *levels.counts.last().unwrap();
         let highest = if levels.end == End::Cut { last - 1 } else { last + 1 };
@@ -475,7 +503,9 @@ impl Run {
     /// Slot numbers past 16 bits, as many states as there can be slots, and a miss after hundreds of ticks.
     fn largest_tables(&mut self, r: &mut Rng) -> Result<(), String> {
         self.large_case(r, &table(0, 3, &[(1, 1, 50); 3]), 1 << 20, &[65_536, 65_537])?;
-        self.large_case(r, &table(3, 1, &[(20, 39, 39), (20, 40, 40)]), 1 << 20, &[1_000_000])?;
+        for policy in [3, 4] {
+            self.large_case(r, &table(policy, 1, &[(20, 39, 39), (20, 40, 40)]), 1 << 20, &[1_000_000])?;
+        }
         self.large_case(r, &table(1, 3, &[(1, 1, 100); 3]), 1 << 20, &[])
     }
 
@@ -542,6 +572,33 @@ impl Run {
         Ok(())
     }
 
+    /// A table whose verdict is known, with K slots.
+    fn known_verdict(&mut self, r: &mut Rng, t: &Table, k: usize, v: Verdict) -> Result<(), String> {
+        let s = self.subject(model::write_sheet(t), LIMIT);
+        if s.levels.as_ref().unwrap().verdict(k) != Some(v) {
+            return Err(format!("{t:?} with K = {k}: not {v:?} by levels"));
+        }
+        self.search(r, &s, k * SLOT, k).map(drop)
+    }
+
+    /// Tables on two cores on which earliest deadline and least slack differ in verdict, in L or in count, each both ways.
+    fn least_slack(&mut self, r: &mut Rng) -> Result<(), String> {
+        use Verdict::{Safe, Unsafe};
+        let entries: [(&[(u8, u8, u8)], Verdict, Verdict); 6] = [
+            (&[(1, 2, 2), (1, 1, 2), (2, 2, 2)], Unsafe(1, 1), Safe(9)),
+            (&[(2, 2, 5), (2, 3, 3), (2, 4, 4), (1, 2, 3)], Safe(240), Unsafe(8, 229)),
+            (&[(1, 2, 2), (2, 2, 2), (1, 1, 1)], Unsafe(1, 1), Unsafe(2, 5)),
+            (&[(2, 2, 4), (2, 3, 3), (2, 4, 4), (1, 2, 3)], Unsafe(7, 192), Unsafe(6, 183)),
+            (&[(2, 3, 3), (1, 2, 2), (1, 1, 2)], Safe(14), Safe(12)),
+            (&[(2, 3, 3), (1, 2, 3), (3, 4, 4)], Safe(44), Safe(47)),
+        ];
+        for (tasks, earliest, least) in entries {
+            self.known_verdict(r, &table(3, 2, tasks), LIMIT, earliest)?;
+            self.known_verdict(r, &table(4, 2, tasks), LIMIT, least)?;
+        }
+        Ok(())
+    }
+
     /// Document 01's benchmark tables.
     fn benchmarks(&mut self, r: &mut Rng) -> Result<(), String> {
         let entries = [
@@ -555,11 +612,7 @@ impl Run {
             (table(1, 1, &[(1, 1, 200)]), 199, Verdict::NoRoom(199)),
         ];
         for (t, k, v) in entries {
-            let s = self.subject(model::write_sheet(&t), LIMIT);
-            if s.levels.as_ref().unwrap().verdict(k) != Some(v) {
-                return Err(format!("{t:?} with K = {k}: not {v:?} by levels"));
-            }
-            self.search(r, &s, k * SLOT, k)?;
+            self.known_verdict(r, &t, k, v)?;
         }
         let s = self.subject(vec![3, 0, 1, 2, 1, 1, 2, 2, 4, 4], LIMIT);
         let list = self.search(r, &s, 65_520, 8_192)?.masks;
@@ -632,6 +685,7 @@ fn whole_run(run: &mut Run, seed: u64, sheets: u64) -> Result<(), String> {
     if run.m.fault == 0 {
         // A seeded fault is left to the generated sheets.
         run.benchmarks(&mut r).map_err(|e| format!("benchmark tables: {e}"))?;
+        run.least_slack(&mut r).map_err(|e| format!("least slack: {e}"))?;
         run.every_table(&mut r).map_err(|e| format!("every table: {e}"))?;
         run.sizes_of_files(&mut r).map_err(|e| format!("sizes of files: {e}"))?;
         run.all_at_once(&mut r).map_err(|e| format!("all tasks at once: {e}"))?;
@@ -687,11 +741,14 @@ fn complete(met: &Met) -> Result<(), String> {
     all.extend([1, 2, 3, 4, 5, 6, 7, 8, 14].map(|n| format!("closed refused {n:2}")));
     all.extend([9, 12, 14].map(|n| format!("states refused {n:2}")));
     all.extend(files::MUST.map(|(name, outcome)| format!("file {name}: {outcome}")));
-    all.extend((0..4).map(|p| format!("sheets of policy {p}")));
-    all.extend(
-        ["Safe", "Unsafe", "No room", "replay Kept", "replay Missed", "read done", "write done", "states done"]
-            .map(String::from),
-    );
+    let answers = ["Safe", "Unsafe", "No room", "replay Kept", "replay Missed", "file accepted", "file no"];
+    for p in 0..POLICIES {
+        all.push(format!("sheets of policy {p}"));
+        all.extend(answers.map(|answer| format!("{answer} under policy {p}")));
+    }
+    all.extend(["sheets", "tables"].map(|what| format!("{what} refused 4, for policy 5")));
+    all.extend(["other states", "another end"].map(|what| format!("sheets of policy 4 with {what} under policy 3")));
+    all.extend(["read done", "write done", "states done"].map(String::from));
     match all.iter().find(|what| met.of(what) < 20) {
         Some(what) => Err(format!("met fewer than 20 times: {what}")),
         None => Ok(()),
@@ -745,6 +802,6 @@ fn main() {
 }
 
 fn usage() -> ! {
-    eprintln!("usage: differ [--seed S] [--sheets N] [--case I] [--fault 1..15] [--corpus DIR]");
+    eprintln!("usage: differ [--seed S] [--sheets N] [--case I] [--fault 1..21] [--corpus DIR]");
     std::process::exit(2);
 }

@@ -2,7 +2,7 @@
 
 use crate::check::{self, SLOT};
 use crate::files::{self, Fault, File};
-use crate::model::{self, State, Verdict, STATE};
+use crate::model::{self, State, Verdict, POLICIES, STATE};
 use crate::rng::Rng;
 use crate::{calls, table, Found, Lent, Run, Subject, LIMIT};
 
@@ -20,10 +20,14 @@ impl Run {
             return Err(told(format!("{outcome:?} by the model and the library, which it is not")));
         }
         self.met.add("calls on a file");
-        self.met.add(&match outcome {
-            Ok(closed) => format!("file {}: {}", file.name, if closed { "accepted" } else { "no" }),
-            Err(n) => format!("closed refused {n:2}"),
-        });
+        match outcome {
+            Ok(closed) => {
+                let answer = if closed { "accepted" } else { "no" };
+                self.met.add(&format!("file {}: {answer}", file.name));
+                self.met.add(&s.under(&format!("file {answer}")));
+            }
+            Err(n) => self.met.add(&format!("closed refused {n:2}")),
+        }
         Ok(())
     }
 
@@ -143,7 +147,7 @@ impl Run {
     /// Tables with a core too few, in which nothing but the release of all tasks from the start state misses; and tables with
     /// enough, whose files lack the one state that only this release leads to.
     pub fn all_at_once(&mut self, r: &mut Rng) -> Result<(), String> {
-        for (n, policy) in (2..=8).flat_map(|n| (0..4).map(move |policy| (n, policy))) {
+        for (n, policy) in (2..=8).flat_map(|n| (0..POLICIES).map(move |policy| (n, policy))) {
             let crowded = table(policy, n as u8 - 1, &[(1, 1, 2); 8][..n]);
             let s = self.subject(model::write_sheet(&crowded), LIMIT);
             for file in files::of_unsafe(r, &self.m, &crowded, &[State::default()]) {
@@ -160,7 +164,7 @@ impl Run {
 
     /// Under each policy files that are closed but for states improper in each of the ways that there are.
     pub fn improper_files(&mut self, r: &mut Rng) -> Result<(), String> {
-        for policy in 0..4 {
+        for policy in 0..POLICIES {
             let t = table(policy, 1, &[(2, 6, 7), (2, 6, 8)]);
             let s = self.subject(model::write_sheet(&t), LIMIT);
             let states = reached(&s);
@@ -168,7 +172,7 @@ impl Run {
                 match (0..50).find_map(|_| files::but_improper(r, &self.m, &t, &states, fault)) {
                     Some(all) => self.closed(r, &s, &File::of(name, &all, Some(false)))?,
                     // Under the policies that preempt any number of jobs may be started.
-                    None if matches!(fault, Fault::Started) && policy % 2 == 1 => {}
+                    None if matches!(fault, Fault::Started) && model::preempted(policy) => {}
                     None => return Err(format!("{t:?}: no file is {name}")),
                 }
             }

@@ -1,6 +1,6 @@
 //! Files of states for ronchhek_closed, made from those of a search: in another order, wider, and damaged in one place.
 
-use crate::model::{Model, State, Table, Tick, STATE};
+use crate::model::{Model, State, Table, Tick, POLICIES, STATE};
 use crate::rng::Rng;
 use std::collections::HashSet;
 
@@ -287,7 +287,7 @@ pub fn others(r: &mut Rng, states: &[State]) -> Vec<File> {
 pub fn another(r: &mut Rng, t: &Table) -> Table {
     let mut t = t.clone();
     if r.one_in(2) {
-        t.policy = r.below(4) as u8;
+        t.policy = r.below(POLICIES as usize) as u8;
     } else {
         t.cores = r.range(1, 8) as u8;
     }

@@ -1,10 +1,10 @@
 //! Generated sheets and tables, valid and damaged.
 
-use crate::model::{self, Table, Task};
+use crate::model::{self, Table, Task, POLICIES};
 use crate::rng::Rng;
 
 /// Numbers at and beside the limits of a sheet's fields.
-const EDGES: [u32; 18] = [0, 1, 2, 3, 4, 7, 8, 9, 126, 127, 128, 129, 199, 200, 201, 256, 257, 16383];
+const EDGES: [u32; 19] = [0, 1, 2, 3, 4, 5, 7, 8, 9, 126, 127, 128, 129, 199, 200, 201, 256, 257, 16383];
 
 fn task(r: &mut Rng, gap: usize, most_work: usize) -> Task {
     let work = r.range(1, gap.min(most_work));
@@ -32,16 +32,16 @@ pub fn table(r: &mut Rng) -> Table {
             let n = r.range(1, 3);
             with_gaps(r, n, 1, 6, 3)
         }
-        30..=44 => {
+        30..=39 => {
             let n = r.range(2, 3);
             with_gaps(r, n, 3, 9, 2)
         }
-        45..=59 => with_gaps(r, 2, 1, 24, 6),
-        60..=69 => {
+        40..=54 => with_gaps(r, 2, 1, 24, 6),
+        55..=64 => {
             let n = r.range(4, 8);
             with_gaps(r, n, 1, 3, 1)
         }
-        70..=77 => {
+        65..=77 => {
             let n = r.range(3, 5);
             with_gaps(r, n, 2, 4, 4)
         }
@@ -83,13 +83,14 @@ pub fn tiny_table(r: &mut Rng) -> Table {
 }
 
 fn with_policy(r: &mut Rng, tasks: Vec<Task>) -> Table {
-    let cores = match r.below(8) {
+    let cores = match r.below(9) {
         0..=3 => 1,
         4..=5 => 2,
         6 => r.range(1, tasks.len()),
+        7 => tasks.len().max(2) - 1,
         _ => r.range(1, 8),
     };
-    Table { policy: r.below(4) as u8, cores: cores as u8, tasks }
+    Table { policy: r.below(POLICIES as usize) as u8, cores: cores as u8, tasks }
 }
 
 /// One change of a sheet's bytes.
@@ -112,6 +113,11 @@ fn damage(r: &mut Rng, sheet: &mut Vec<u8>) {
     }
 }
 
+/// The least number that is too high for a place among a sheet's numbers.
+fn too_high(at: usize) -> u32 {
+    [4, POLICIES as u32, 9, 9].get(at).copied().unwrap_or(201)
+}
+
 /// A sheet with some of its numbers replaced.
 fn odd_numbers(r: &mut Rng, t: &Table, changes: usize) -> Vec<u8> {
     let mut v = model::numbers(t);
@@ -120,7 +126,7 @@ fn odd_numbers(r: &mut Rng, t: &Table, changes: usize) -> Vec<u8> {
         v[at] = match r.below(5) {
             0 => (v[at] + 1).min(16383),
             1 => v[at].saturating_sub(1),
-            2 => 201,
+            2 => too_high(at),
             3 => r.pick(&EDGES),
             _ => r.below(300) as u32,
         };
@@ -143,7 +149,7 @@ pub fn table_bytes(r: &mut Rng, valid: Vec<u8>) -> Vec<u8> {
                 bytes[at] = match r.below(4) {
                     0 => bytes[at].wrapping_add(1),
                     1 => bytes[at].wrapping_sub(1),
-                    2 => r.pick(&[0, 1, 8, 9, 127, 128, 200, 201, 255]),
+                    2 => r.pick(&[0, 1, 4, 5, 8, 9, 127, 128, 200, 201, 255]),
                     _ => r.byte(),
                 };
             }

@@ -1,6 +1,6 @@
-//! The rules of document 01 written once more: sheet, table, tick, replay, and a search with plain sets; and those of closed
-//! lists, of document 02. Slow and direct; shares nothing with the library. Section names in the comments are document 01's.
-//! Tasks are counted from 0 here, so task i of this file is the document's task i + 1.
+//! The rules of document 01 written once more: sheet, table, tick, replay, and a search with plain sets; and those of document
+//! 02's closed lists (§1) and least slack first (§3). Slow and direct; shares nothing with the library. Section names in the
+//! comments are document 01's. Tasks are counted from 0 here, so task i of this file is the document's task i + 1.
 
 use std::collections::{HashMap, HashSet};
 
@@ -9,6 +9,14 @@ pub const TASKS: usize = 8;
 /// Bytes of a state.
 pub const STATE: usize = 2 * TASKS;
 
+/// The policies are 0 to 4: NP-GFP, P-GFP, NP-EDF, P-EDF, P-LST.
+pub const POLICIES: u8 = 5;
+
+/// P: a started job may lose its core, and any number of jobs may be started.
+pub fn preempted(policy: u8) -> bool {
+    matches!(policy, 1 | 3 | 4)
+}
+
 #[derive(Clone, Copy, PartialEq, Eq, Debug)]
 pub struct Task {
     pub work: u8,
@@ -16,7 +24,7 @@ pub struct Task {
     pub gap: u8,
 }
 
-/// A valid table: policy 0 to 3, 1 to 8 cores, 1 to 8 tasks.
+/// A valid table: policy 0 to 4, 1 to 8 cores, 1 to 8 tasks.
 #[derive(Clone, PartialEq, Eq, Debug)]
 pub struct Table {
     pub policy: u8,
@@ -112,7 +120,7 @@ pub struct Model {
 }
 
 /// Faults that `Model` knows.
-pub const FAULTS: [&str; 15] = [
+pub const FAULTS: [&str; 21] = [
     "under NP an urgent job takes a started job's core",
     "a deadline is tested only when no time is left",
     "a task's rule is judged after all tasks",
@@ -128,6 +136,12 @@ pub const FAULTS: [&str; 15] = [
     "the bytes of a file after its last whole state are not looked at",
     "an empty file is refused before its sheet is read",
     "a short space for states is judged before the slots",
+    "least slack is ordered by the time left",
+    "least slack is that of the state before the release",
+    "least slack is that of the tick in which a job was released",
+    "of jobs with equal slack the higher task number runs first",
+    "under least slack no more jobs are started than cores",
+    "policy 5 is let pass",
 ];
 
 // The sheet.
@@ -196,7 +210,7 @@ impl Model {
             _ => return Err(8),
         }
         let (policy, cores, n) = (b[0], b[1], b[2] as usize);
-        if policy > 3 {
+        if self.no_policy(policy as u32) {
             return Err(4);
         }
         if !(1..=8).contains(&cores) {
@@ -220,6 +234,11 @@ impl Model {
         Ok(write_sheet(&Table { policy, cores, tasks }))
     }
 
+    /// Refusal 4: a policy above 4.
+    fn no_policy(&self, policy: u32) -> bool {
+        policy > if self.fault == 21 { 5 } else { 4 }
+    }
+
     /// "Refusals by cause": a sheet is judged in reading order.
     pub fn read_sheet(&self, sheet: &[u8]) -> Result<Table, u8> {
         let (fields, at) = number(sheet, 0)?;
@@ -227,7 +246,7 @@ impl Model {
             return Err(3);
         }
         let (policy, at) = number(sheet, at)?;
-        if policy > 3 {
+        if self.no_policy(policy) {
             return Err(4);
         }
         let (cores, at) = number(sheet, at)?;
@@ -264,10 +283,47 @@ impl Model {
 
     // The tick.
 
+    /// What a ready job is ordered by before its task number: nothing under GFP, the time left under EDF, the slack under LST.
+    fn urgency(&self, t: &Table, s: &State, i: usize) -> i32 {
+        match t.policy {
+            2 | 3 => time_left(t, s, i),
+            4 if self.fault == 16 => time_left(t, s, i),
+            4 if self.fault == 18 => t.tasks[i].deadline as i32 - t.tasks[i].work as i32,
+            4 => slack(t, s, i),
+            _ => 0,
+        }
+    }
+
+    /// Steps 2 and 3, after the release: sort the ready jobs, then hand out the cores. Bit i is set where task i runs. The
+    /// urgency is that of the state `seen`, which is the same one unless a mistake is seeded.
+    fn running(&self, t: &Table, s: &State, seen: &State) -> u8 {
+        let keeps_core = !preempted(t.policy) && self.fault != 1;
+        let mut ready = [(0i32, 0i32, 0i32, 0usize); TASKS];
+        let mut jobs = 0;
+        for i in 0..t.tasks.len() {
+            if s.left[i] > 0 {
+                let started = s.left[i] < t.tasks[i].work;
+                let first = if keeps_core && started { 0 } else { 1 };
+                let number = if self.fault == 19 && t.policy == 4 { -(i as i32) } else { i as i32 };
+                ready[jobs] = (first, self.urgency(t, seen, i), number, i);
+                jobs += 1;
+            }
+        }
+        let ready = &mut ready[..jobs];
+        ready.sort_unstable();
+        let mut running = 0;
+        for (place, &(first, _, _, i)) in ready.iter().enumerate() {
+            if first == 0 || place < t.cores as usize {
+                running |= 1 << i;
+            }
+        }
+        running
+    }
+
     /// "One tick", from a proper state.
-    pub fn tick(&self, t: &Table, s: &State, mask: u8) -> Tick {
+    pub fn tick(&self, t: &Table, given: &State, mask: u8) -> Tick {
         let n = t.tasks.len();
-        let mut s = *s;
+        let mut s = *given;
         for i in 0..TASKS {
             if mask & 1 << i == 0 {
                 continue;
@@ -278,35 +334,14 @@ impl Model {
             s.left[i] = t.tasks[i].work;
             s.wait[i] = t.tasks[i].gap;
         }
-        // Steps 2 and 3: sort the ready jobs, then hand out the cores.
-        let preempted = t.policy == 1 || t.policy == 3 || self.fault == 1;
-        let by_deadline = t.policy == 2 || t.policy == 3;
-        let mut ready = [(0i32, 0i32, 0usize); TASKS];
-        let mut jobs = 0;
+        let seen = if self.fault == 17 && t.policy == 4 { given } else { &s };
+        let running = self.running(t, &s, seen);
         for i in 0..n {
-            if s.left[i] > 0 {
-                let started = s.left[i] < t.tasks[i].work;
-                let first = if !preempted && started { 0 } else { 1 };
-                let key = if by_deadline { time_left(t, &s, i) } else { 0 };
-                ready[jobs] = (first, key, i);
-                jobs += 1;
-            }
-        }
-        let ready = &mut ready[..jobs];
-        ready.sort_unstable();
-        for (place, &(first, _, i)) in ready.iter().enumerate() {
-            if first == 0 || place < t.cores as usize {
-                s.left[i] -= 1;
-            }
-        }
-        for i in 0..n {
+            s.left[i] -= running >> i & 1;
             s.wait[i] = s.wait[i].saturating_sub(1);
         }
-        let late = |i: usize| {
-            let d = time_left(t, &s, i);
-            let slack = d - s.left[i] as i32;
-            s.left[i] > 0 && if self.fault == 2 { d <= 0 } else { slack < 0 }
-        };
+        let over = |i| if self.fault == 2 { time_left(t, &s, i) <= 0 } else { slack(t, &s, i) < 0 };
+        let late = |i: usize| s.left[i] > 0 && over(i);
         if (0..n).any(late) {
             Tick::Missed(s)
         } else {
@@ -329,14 +364,15 @@ impl Model {
             if s.left[i] > task.work || s.wait[i] > task.gap {
                 return false;
             }
-            if s.left[i] > 0 && time_left(t, s, i) - (s.left[i] as i32) < 0 {
+            if s.left[i] > 0 && slack(t, s, i) < 0 {
                 return false;
             }
             if 0 < s.left[i] && s.left[i] < task.work {
                 started += 1;
             }
         }
-        t.policy == 1 || t.policy == 3 || started <= t.cores
+        let limited = !preempted(t.policy) || (self.fault == 20 && t.policy == 4);
+        !limited || started <= t.cores
     }
 
     /// "Replay", from the start state.
@@ -431,4 +467,9 @@ impl Model {
 /// d = D - (P - p).
 fn time_left(t: &Table, s: &State, i: usize) -> i32 {
     t.tasks[i].deadline as i32 - (t.tasks[i].gap as i32 - s.wait[i] as i32)
+}
+
+/// d - c.
+fn slack(t: &Table, s: &State, i: usize) -> i32 {
+    time_left(t, s, i) - s.left[i] as i32
 }
