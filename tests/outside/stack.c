@@ -9,7 +9,7 @@
 
 enum { STACK = 4 << 20, PATTERN = 0xA5 };
 
-static const uint8_t sheet[] = {3, 3, 2, 4, 2, 40, 60, 3, 50, 70, 4, 60, 80, 1, 3, 3};
+static uint8_t sheet[] = {3, 3, 2, 4, 2, 40, 60, 3, 50, 70, 4, 60, 80, 1, 3, 3}; /* of policy 3, and of 4 */
 static const uint8_t one_state[] = {3, 1, 1, 1, 1, 1, 1}; /* its only state is the start state */
 
 struct job {
@@ -42,7 +42,7 @@ static void *run(void *given)
 }
 
 /* Bytes from the lowest one that changed to the stack's end. */
-static size_t used(struct job *job)
+static size_t measure(struct job *job)
 {
     static uint8_t *stack;
     pthread_attr_t attributes;
@@ -61,6 +61,21 @@ static size_t used(struct job *job)
     while (low < STACK && stack[low] == PATTERN)
         low++;
     return STACK - low;
+}
+
+/* The most of both policies of the sheet, which are to be answered alike. */
+static size_t used(struct job *job)
+{
+    sheet[1] = 3;
+    size_t earliest = measure(job);
+    uint64_t answer = job->answer;
+    sheet[1] = 4;
+    size_t least = measure(job);
+    if (job->answer != answer) {
+        fputs("stack: a policy is answered otherwise than the other\n", stderr);
+        exit(2);
+    }
+    return earliest > least ? earliest : least;
 }
 
 /* A file of as many start states, once accepted and once not: whether the larger of both measures is within the header's figure. */
