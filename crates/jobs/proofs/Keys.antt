@@ -1,18 +1,18 @@
 -- Keys as natural numbers. Assumes nothing.
-use Prim.Native.Nat.{ℕ, suc, _+_, _-_, _<_, _≤_}
+use Prim.Native.Nat.{ℕ, suc, _+_, _-_, _^_, _<_, _≤_}
 use mathlib.Core.Path.{_≡_, refl, sym, ap, _∙_}
 use native.Mathlib.Omega.{arith}
 use lib.Dec.{ltb}
 use lib.IntN.{ℤ, pos, negsuc, subℕ, _+ℤ_}
 use lib.Signed.{ltZ, mag}
-use mir.Syntax.{w8}
-use mir.Val.{Fits}
+use mir.Syntax.{w8, w16}
+use mir.Val.{Fits, toZ, ofZ}
 use borrow.Author.Tests.{lt-ltb, le-ltb}
 use Rattle.lists.specs.Lists.{pick}
 use Rattle.lists.proofs.Bools.{by-bool}
 use Rattle.jobs.specs.Job.{jobKey}
 use Rattle.jobs.specs.Place.{raised}
-use Rattle.jobs.proofs.Signed.{by-lt, sub-lt, sub-ge, mag-sub, ltb-same, time-left-sub, slack-sub}
+use Rattle.jobs.proofs.Signed.{by-lt, sub-lt, sub-ge, mag-sub, ltb-same, time-left-sub, slack-sub, back}
 
 -- ---- any key, whatever the policy
 
@@ -61,6 +61,10 @@ module _ (policy d g p c : ℕ) (fd : Fits w8 d) (fg : Fits w8 g) (fp : Fits w8 
       (by-bool (ltb policy 4)
       (λ h. rw (h, time-left-sub d g p) (mag-sub (d + p) g 511 (omega arith) (omega arith)))
       (λ h. rw (h, slack-sub d g p c) (mag-sub (d + p) (g + c) 511 (omega arith) (omega arith)))))
+
+  -- a number that is the key, read back from its bits
+  pub key-back : (r : ℤ) → mag r < 2 ^ 15 → r ≡ jobKey policy d g p c → (toZ w16 (ofZ w16 r) ≡ jobKey policy d g p c) × (mag (toZ w16 (ofZ w16 r)) < 511)
+  key-back r h e = rw (back r h, e) (refl, key-range)
 
   -- LAW: the raised key in natural numbers
   pub raised-key : raised (jobKey policy d g p c) ≡ pick (ltb policy 2) 512 (pick (ltb policy 4) (512 + (d + p) - g) (512 + (d + p) - (g + c)))

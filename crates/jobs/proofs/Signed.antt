@@ -92,6 +92,17 @@ time-left-sub d g p = ap (λ z. pos d -ℤ z) (pos-sub-pos g p) ∙ pos-sub-sub 
 pub slack-sub : (d g p c : ℕ) → slack d g p c ≡ subℕ (d + p) (g + c)
 slack-sub d g p c = ap (λ z. z -ℤ pos c) (time-left-sub d g p) ∙ sub-sub-pos (d + p) g c
 
+-- the slack goes by what p is above c, and no more
+pub slack-same : (d g p c q e : ℕ) → p + e ≡ q + c → slack d g p c ≡ slack d g q e
+slack-same d g p c q e h = slack-sub d g p c ∙ sub-same (d + p) (g + c) (d + q) (g + e) (omega arith) ∙ sym (slack-sub d g q e)
+
+-- one tick of work more takes 1 off
+pub slack-less : (d g p c : ℕ) → slack d g p (c + 1) ≡ slack d g p c -ℤ pos 1
+slack-less d g p c =
+    slack-sub d g p (c + 1)
+    ∙ sub-same (d + p) (g + (c + 1)) (d + p) (g + c + 1) (omega arith)
+    ∙ sym (ap (λ z. z -ℤ pos 1) (slack-sub d g p c) ∙ sub-sub-pos (d + p) (g + c) 1)
+
 -- a job is late where D + p is below P + c
 pub slack-late : (d g p c : ℕ) → ltZ (slack d g p c) (pos 0) ≡ ltb (d + p) (g + c)
 slack-late d g p c = ap (λ z. ltZ z (pos 0)) (slack-sub d g p c) ∙ ltZ-zero (d + p) (g + c)

@@ -14,7 +14,7 @@ use Rattle.tasks.specs.Tick.{bit, released, runs, after}
 use Rattle.tasks.specs.declared.state.State.{State}
 use Rattle.tasks.specs.declared.table.Table.{Table}
 use Rattle.lists.proofs.Bools.{by-bool, clash, and-left, and-right, both}
-use Rattle.jobs.proofs.Signed.{sub-lt, sub-same, sub-sub-pos, slack-sub, slack-late}
+use Rattle.jobs.proofs.Signed.{sub-lt, slack-sub, slack-same, slack-less, slack-late}
 use Rattle.tasks.proofs.Tables.{ordered}
 use Rattle.tasks.proofs.Choice.{runs-work}
 use Rattle.tasks.proofs.After.{work-on, work-off, gap-on, gap-off, work-ran, work-waited, gap-after}
@@ -57,32 +57,18 @@ module _ (t : Table) (s : State) (mask : ℕ) (i : ℕ) (h : i < 8) where
   pub slack-ran :
       runs t (released t s mask) i ≡ true → 0 < getD (released t s mask .p) i 0 → slackAt t (after t s mask) i ≡ slackAt t (released t s mask) i
   slack-ran r gap =
-      let D = getD (t .deadline) i 0 in
-      let P = getD (t .gap) i 0 in
-      let c = getD (released t s mask .c) i 0 in
-      let p = getD (released t s mask .p) i 0 in
-      let c′ = getD (after t s mask .c) i 0 in
-      let p′ = getD (after t s mask .p) i 0 in
-      let ran = work-ran t s mask i h r in
-      let left = runs-work t (released t s mask) i r in
-      let fell = gap-after t s mask i h in
-      slack-sub D P p′ c′ ∙ sub-same (D + p′) (P + c′) (D + p) (P + c) (omega arith) ∙ sym (slack-sub D P p c)
+      slack-same (getD (t .deadline) i 0) (getD (t .gap) i 0) (getD (after t s mask .p) i 0) (getD (after t s mask .c) i 0) (getD (released t s mask .p) i 0) (getD (released t s mask .c) i 0)
+      (omega (arith, work-ran t s mask i h r, gap-after t s mask i h, runs-work t (released t s mask) i r))
 
   -- LAW: the slack of a job that waits falls by 1
   pub slack-waited :
       runs t (released t s mask) i ≡ false → 0 < getD (released t s mask .p) i 0 → slackAt t (after t s mask) i ≡ slackAt t (released t s mask) i -ℤ pos 1
   slack-waited r gap =
-      let D = getD (t .deadline) i 0 in
-      let P = getD (t .gap) i 0 in
       let c = getD (released t s mask .c) i 0 in
       let p = getD (released t s mask .p) i 0 in
-      let c′ = getD (after t s mask .c) i 0 in
-      let p′ = getD (after t s mask .p) i 0 in
-      let same = work-waited t s mask i h r in
-      let fell = gap-after t s mask i h in
-      slack-sub D P p′ c′
-      ∙ sub-same (D + p′) (P + c′) (D + p) (P + c + 1) (omega arith)
-      ∙ sym (ap (λ z. z -ℤ pos 1) (slack-sub D P p c) ∙ sub-sub-pos (D + p) (P + c) 1)
+      slack-same (getD (t .deadline) i 0) (getD (t .gap) i 0) (getD (after t s mask .p) i 0) (getD (after t s mask .c) i 0) p (c + 1)
+      (omega (arith, work-waited t s mask i h r, gap-after t s mask i h))
+      ∙ slack-less (getD (t .deadline) i 0) (getD (t .gap) i 0) p c
 
 -- ---- a tick from a proper state
 

@@ -1,10 +1,8 @@
-use mathlib.Core.Path.{_≡_, refl}
 use native.Mathlib.Omega.{arith}
 use borrow.Author.Needs.{needs}
 use borrow.Author.Tests.{lt-ltb, le-ltb}
 use Rattle.jobs.specs.Job.{jobKey}
-use Rattle.jobs.proofs.Signed.{back}
-use Rattle.jobs.proofs.Keys.{key-range}
+use Rattle.jobs.proofs.Keys.{key-back}
 use Rattle.jobs.proofs.job.job_key.Statement.{statement}
 use Rattle.jobs.proofs.job.job_key.Tie as tie
 
@@ -18,11 +16,11 @@ time-left-requires c κs = search needs
 returns-2 : tie.Need-returns-2
 unfolding jobKey
 returns-2 c =
-    let a = c .before .before .before .args in
-    let f = c .before .before .before .fits in
-    let e : c .time-left .result ≡ jobKey (a .policy) (a .deadline) (a .gap) (a .p) (a .c) =
-    rw (le-ltb (a .policy) 2 (c .before .before .if1 .left), lt-ltb (a .policy) 4 (c .before .if2 .taken)) (c .time-left .ensures) in
-    rw (back (c .time-left .result) (c .time-left .ok), e) (refl, key-range (a .policy) (a .deadline) (a .gap) (a .p) (a .c) (f .deadline) (f .gap) (f .p) (f .c))
+    let h = c .before .before in
+    let a = h .before .args in
+    let f = h .before .fits in
+    key-back (a .policy) (a .deadline) (a .gap) (a .p) (a .c) (f .deadline) (f .gap) (f .p) (f .c) (c .time-left .result) (c .time-left .ok)
+    (rw (le-ltb (a .policy) 2 (h .if1 .left), lt-ltb (a .policy) 4 (c .before .if2 .taken)) (c .time-left .ensures))
 
 slack-of-requires : tie.Need-slack-of-requires
 slack-of-requires c κs = search needs
@@ -30,11 +28,11 @@ slack-of-requires c κs = search needs
 returns-3 : tie.Need-returns-3
 unfolding jobKey
 returns-3 c =
-    let a = c .before .before .before .args in
-    let f = c .before .before .before .fits in
-    let e : c .slack-of .result ≡ jobKey (a .policy) (a .deadline) (a .gap) (a .p) (a .c) =
-    rw (le-ltb (a .policy) 2 (c .before .before .if1 .left), le-ltb (a .policy) 4 (c .before .if2 .left)) (c .slack-of .ensures) in
-    rw (back (c .slack-of .result) (c .slack-of .ok), e) (refl, key-range (a .policy) (a .deadline) (a .gap) (a .p) (a .c) (f .deadline) (f .gap) (f .p) (f .c))
+    let h = c .before .before in
+    let a = h .before .args in
+    let f = h .before .fits in
+    key-back (a .policy) (a .deadline) (a .gap) (a .p) (a .c) (f .deadline) (f .gap) (f .p) (f .c) (c .slack-of .result) (c .slack-of .ok)
+    (rw (le-ltb (a .policy) 2 (h .if1 .left), le-ltb (a .policy) 4 (c .before .if2 .left)) (c .slack-of .ensures))
 
 pub job-key-spec : {M : Type 1} → statement M
 job-key-spec = tie.close (tie.spec returns time-left-requires returns-2 slack-of-requires returns-3)
