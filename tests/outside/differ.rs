@@ -22,6 +22,15 @@ use std::collections::{BTreeMap, HashSet};
 /// More states than a search of a generated sheet is followed to.
 const LIMIT: usize = 1500;
 
+/// Document 000's sets of 5 and of 6 tasks on three cores under each policy, by policy, as the repository's README has them.
+const PUBLISHED: [(u8, [Verdict; POLICIES as usize]); 2] = {
+    use Verdict::{Safe, Unsafe};
+    [
+        (5, [Safe(23_881), Safe(23_800), Safe(23_881), Safe(23_871), Safe(23_760)]),
+        (6, [Safe(435_379), Unsafe(14, 397_270), Safe(435_357), Safe(428_229), Safe(402_475)]),
+    ]
+};
+
 /// What a run met, by name.
 #[derive(Default)]
 struct Met(BTreeMap<String, usize>);
@@ -574,7 +583,7 @@ impl Run {
 
     /// A table whose verdict is known, with K slots.
     fn known_verdict(&mut self, r: &mut Rng, t: &Table, k: usize, v: Verdict) -> Result<(), String> {
-        let s = self.subject(model::write_sheet(t), LIMIT);
+        let s = self.subject(model::write_sheet(t), LIMIT.max(k));
         if s.levels.as_ref().unwrap().verdict(k) != Some(v) {
             return Err(format!("{t:?} with K = {k}: not {v:?} by levels"));
         }
@@ -595,6 +604,17 @@ impl Run {
         for (tasks, earliest, least) in entries {
             self.known_verdict(r, &table(3, 2, tasks), LIMIT, earliest)?;
             self.known_verdict(r, &table(4, 2, tasks), LIMIT, least)?;
+        }
+        Ok(())
+    }
+
+    /// Document 000's sets on three cores: task i of n has C = i and D = P = 2 (i + 1).
+    fn published_sets(&mut self, r: &mut Rng, known: &[(u8, [Verdict; POLICIES as usize])]) -> Result<(), String> {
+        for (n, verdicts) in known {
+            let tasks: Vec<_> = (1..=*n).map(|i| (i, 2 * (i + 1), 2 * (i + 1))).collect();
+            for (policy, v) in (0..POLICIES).zip(verdicts) {
+                self.known_verdict(r, &table(policy, 3, &tasks), 1_000_000, *v)?;
+            }
         }
         Ok(())
     }
@@ -686,6 +706,8 @@ fn whole_run(run: &mut Run, seed: u64, sheets: u64) -> Result<(), String> {
         // A seeded fault is left to the generated sheets.
         run.benchmarks(&mut r).map_err(|e| format!("benchmark tables: {e}"))?;
         run.least_slack(&mut r).map_err(|e| format!("least slack: {e}"))?;
+        let sets = if sheets >= 20_000 { &PUBLISHED[..] } else { &PUBLISHED[..1] };
+        run.published_sets(&mut r, sets).map_err(|e| format!("document 000: {e}"))?;
         run.every_table(&mut r).map_err(|e| format!("every table: {e}"))?;
         run.sizes_of_files(&mut r).map_err(|e| format!("sizes of files: {e}"))?;
         run.all_at_once(&mut r).map_err(|e| format!("all tasks at once: {e}"))?;

@@ -1,4 +1,4 @@
--- The starred examples of document 01 ("Benchmark tables"), as entries of one list.
+-- The starred examples of document 01 ("Benchmark tables"), as entries of one list; and another of least slack first (document 02, §3).
 use Prim.Native.Nat.{ℕ}
 use mathlib.Core.List.{List, [], _∷_, map}
 use lib.ListN.{length, take, getD}
@@ -72,4 +72,22 @@ starred =
     ∷ record { asks = sheetNumber (0x80 ∷ 0x00 ∷ []); says = 0 ∷ 2 ∷ [] }
     -- 80 and the end gives 1
     ∷ record { asks = sheetNumber (0x80 ∷ []); says = 0 ∷ 1 ∷ [] }
+    ∷ []
+
+-- ---- least slack first (document 02, §3)
+
+-- three tasks on two processors; all released at once, earliest deadline lets the third wait, which has no slack, and least slack the first
+abbrev pub crowded : ℕ → Table
+crowded policy = table policy 2 (task 1 2 2 ∷ task 1 1 2 ∷ task 2 2 2 ∷ [])
+
+abbrev pub leastSlack : List Example
+leastSlack =
+    -- 3/2: (1,2,2),(1,1,2),(2,2,2): Unsafe 1 1, mask 7
+    record { asks = verdict (crowded 3) 1; says = 2 ∷ 1 ∷ 1 ∷ 7 ∷ [] }
+    -- 4/2, the same: Safe 9
+    ∷ record { asks = verdict (crowded 4) 9; says = 1 ∷ 0 ∷ 9 ∷ [] }
+    -- with K = 8: No room 8
+    ∷ record { asks = verdict (crowded 4) 8; says = 3 ∷ 0 ∷ 8 ∷ [] }
+    -- policy 5: refused with 4
+    ∷ record { asks = replay (crowded 5) []; says = 0 ∷ 4 ∷ [] }
     ∷ []
