@@ -61,7 +61,7 @@ bits-all x h = and-mask x 8 ∙ omega arith
 -- what the two numbers of a task add to its base gives its key
 key-old :
     (policy d g p c i : ℕ) → i < 8 → Fits w8 d → Fits w8 g → Fits w8 p → Fits w8 c
-    → ((256 + bitAnd p (pick (ltb policy 2) 0 255) - bitAnd c (pick (ltb policy 4) 0 255)) * 8 + ((raised (jobKey policy d g 0 0) - 256) * 8 + i)) % 65536
+    → (bitAnd p (pick (ltb policy 2) 0 255) * 8 + (raised (jobKey policy d g 0 0) * 8 + i) + 65536 - bitAnd c (pick (ltb policy 4) 0 255) * 8) % 65536
     ≡ raised (jobKey policy d g p c) * 8 + i
 key-old policy d g p c i h fd fg fp fc =
     rw (raised-key policy d g 0 0 fd fg none none, raised-key policy d g p c fd fg fp fc)

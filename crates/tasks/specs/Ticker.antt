@@ -18,9 +18,9 @@ use Rattle.tasks.specs.declared.table.Table.{Table}
 use Rattle.tasks.specs.declared.ticker.Prepared.{Prepared}
 use Rattle.tasks.specs.declared.ticker.Ticker.{Ticker}
 
--- a job's place but for what its two numbers add to it: the key of p = 0 and c = 0, raised by 256 only, and below it the task's number
+-- a job's place but for what its two numbers add to it: that of p = 0 and c = 0
 unfoldable pub baseAt : Table → ℕ → ℕ
-baseAt t i = (raised (jobKey (t .policy) (getD (t .deadline) i 0) (getD (t .gap) i 0) 0 0) - 256) * 8 + i
+baseAt t i = raised (jobKey (t .policy) (getD (t .deadline) i 0) (getD (t .gap) i 0) 0 0) * 8 + i
 
 -- a table made ready; what a release leaves of a task is read off a state in which every task has just been released
 unfoldable pub tickerOf : Table → Ticker
@@ -47,14 +47,14 @@ readyIn w = ltb 0 (w % 256)
 abbrev pub keepsIn : ℕ → ℕ → Bool
 keepsIn kept w = ltb (w % 256) kept
 
--- 256 and what the two numbers in word w add to a key: p, where the policy goes by it, less c, where it goes by that
-abbrev pub moved : ℕ → ℕ → ℕ → ℕ
-moved bygap bywork w = 256 + bitAnd (w / 256) bygap - bitAnd (w % 256) bywork
+-- a base moved by the two numbers in word w: up by p, where the policy goes by it, and down by c, where it goes by that
+abbrev pub moved : ℕ → ℕ → ℕ → ℕ → ℕ
+moved bygap bywork base w = (bitAnd (w / 256) bygap * 8 + base + 65536 - bitAnd (w % 256) bywork * 8) % 65536
 
 -- the place of a task with word w that is not released
 unfoldable pub oldPlace : ℕ → ℕ → ℕ → ℕ → ℕ → ℕ
 oldPlace bygap bywork kept base w =
-    pick (readyIn w) (pick (keepsIn kept w) 0 ((moved bygap bywork w * 8 + base) % 65536)) 65535
+    pick (readyIn w) (pick (keepsIn kept w) 0 (moved bygap bywork base w)) 65535
 
 -- its word after the tick, but for its run
 unfoldable pub oldWord : ℕ → ℕ

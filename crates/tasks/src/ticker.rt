@@ -56,8 +56,8 @@ fn keeps_in(kept: u16, w: u16) -> bool
 fn old_place(bygap: u16, bywork: u16, kept: u16, base: u16, w: u16) -> u16
     ensures { λ r. ⌜ r ≡ oldPlace bygap bywork kept base w ⌝ }
 {
-    let moved = 256 + (w / 256 & bygap) - (w % 256 & bywork);
-    let place = std::num::wrapping_add_u16(moved * 8, base);
+    let down = std::num::wrapping_sub_u16(base, (w % 256 & bywork) * 8);
+    let place = std::num::wrapping_add_u16((w / 256 & bygap) * 8, down);
     either16(ready_in(w), either16(keeps_in(kept, w), 0, place), 65535)
 }
 
@@ -190,7 +190,7 @@ fn bases(t: Table) -> [u16; 8]
     let mut i: usize = 0;
     while i < 8 {
         let key = jobs::job_key(policy, t.deadline[i], t.gap[i], 0, 0);
-        out[i] = less(jobs::raised(key), 256) * 8 + (i as u16);
+        out[i] = jobs::raised(key) * 8 + (i as u16);
         i += 1;
     }
     out

@@ -29,9 +29,6 @@ job-key-requires c κs = search needs
 raised-requires : tie.Need-raised-requires Inv-loop μ-loop
 raised-requires c κs = rw (back (c .job-key .result) (c .job-key .ok)) (c .job-key .ensures .1)
 
-less-requires : tie.Need-less-requires Inv-loop μ-loop
-less-requires c κs = search needs
-
 mul-out : tie.Need-mul-out Inv-loop μ-loop
 mul-out c = search needs
 
@@ -54,14 +51,12 @@ loop-less : tie.Need-loop-less Inv-loop μ-loop
 loop-less c = search needs
 
 -- the number stored is the base of task i
-base : (c : tie.After-less Inv-loop μ-loop) → c .less .result * 8 + c .before .before .before .before .before .before .loop .i ≡ baseAt (c .before .before .before .before .before .before .before .args .t1) (c .before .before .before .before .before .before .loop .i)
+base : (c : tie.After-raised Inv-loop μ-loop) → c .raised .result * 8 + c .before .before .before .before .before .loop .i ≡ baseAt (c .before .before .before .before .before .before .args .t1) (c .before .before .before .before .before .loop .i)
 unfolding baseAt
-base c = rw (c .less .ensures, c .before .raised .ensures .0, back (c .before .before .job-key .result) (c .before .before .job-key .ok), c .before .before .job-key .ensures .0)
+base c = rw (c .raised .ensures .0, back (c .before .job-key .result) (c .before .job-key .ok), c .before .job-key .ensures .0)
 
 loop-again : tie.Need-loop-again Inv-loop μ-loop
-loop-again c =
-    let l = c .before .before .before .before .before .before in
-    (omega arith, filled-store (l .loop .inv .1) (omega arith) (base c))
+loop-again c = (omega arith, filled-store (c .before .before .before .before .before .loop .inv .1) (omega arith) (base c))
 
 returns : tie.Need-returns Inv-loop μ-loop
 returns c = filled-end (c .before .loop .inv .1) (c .loop-test .left)
@@ -77,7 +72,6 @@ bases-spec =
     element-copy-out-job-key-2
     job-key-requires
     raised-requires
-    less-requires
     mul-out
     cast-out
     add-out
