@@ -4,13 +4,15 @@
 // a hash of the state after the tick tells classes apart. Nothing rests on this: every pair is looked up in one of the passes.
 ghost use mathlib.Core.Path.{_≡_};
 ghost use Prim.Native.Nat.{_+_, _-_, _*_, _<_, _≤_, min};
-ghost use mathlib.Core.Bool.{_&&_};
+ghost use mathlib.Core.Bool.{false, _&&_};
 ghost use lib.Bits.{bitAnd};
 ghost use lib.Dec.{eqb, ltb, leb};
 ghost use lib.ListN.{length, getD};
 ghost use Rattle.lists.specs.Lists.{pick};
+ghost use Rattle.tasks.specs.State.{improper};
 ghost use Rattle.tasks.specs.Ticker.{tickedBy, tickerOf};
 ghost use Rattle.tasks.specs.Words.{stateOf};
+ghost use Rattle.closed.specs.Closed.{stateIn};
 ghost use Rattle.closed.specs.Keeping.{classOf, landing, Due, RowOf, Between, Every, InsideIs, Given, Ready, AfterWaits, RowWaits};
 use crate::cells::clear;
 use crate::cells::put;
@@ -160,7 +162,7 @@ fn row_pending(
     pass: Pass,
     i: usize,
 ) -> usize
-    requires { ⌜ Given t (now file) n × (ticker ≡ tickerOf t) × (0 < pass .classes) × (split .task < 8) × (i < n) × (4 * count + 1024 ≤ length (now pending)) ⌝ }
+    requires { ⌜ Given t (now file) n × (ticker ≡ tickerOf t) × (0 < pass .classes) × (split .task < 8) × (i < n) × (improper t (stateIn (now file) i) ≡ false) × (4 * count + 1024 ≤ length (now pending)) ⌝ }
     ensures { λ r. ⌜ (r ≤ count + 256) × RowWaits t (now (file .entry)) n (RowOf t (now (file .entry)) split pass i) (now (pending .entry)) count (now (pending .exit)) r ⌝ }
 {
     let v = words_of(key_in(file, i));

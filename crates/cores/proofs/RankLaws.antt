@@ -1,5 +1,5 @@
 -- The ranks of the places, and which tasks are chosen with c processors. Assumes nothing.
-use Prim.Native.Nat.{ℕ, _+_, _≤_, _<_}
+use Prim.Native.Nat.{ℕ, _+_, _*_, _≤_, _<_}
 use mathlib.Core.Path.{_≡_, refl, sym, ap, _∙_}
 use mathlib.Core.List.{List}
 use mathlib.Core.Bool.{Bool, true, false, not, _&&_, _||_}
@@ -16,7 +16,21 @@ use Rattle.lists.proofs.Bools.{by-bool, clash, and-left, and-right, both, or-ri
 use Rattle.lists.proofs.Counts.{count-mono, count-same, count-less, count-one-more, least-of}
 use Rattle.lists.proofs.Fill.{eight-at}
 use Rattle.lists.proofs.Turns.{count-turn, count-room}
-use Rattle.cores.specs.Walk.{under, rank, keptCount, readyCount, taken, Apart}
+use Rattle.cores.specs.Walk.{under, sooner, leads, rank, keptCount, readyCount, taken}
+
+-- LAW: a place with the task's number below it: one number, by which the tasks go
+pub sooner-full : (y k x i : ℕ) → k < 8 → i < 8 → sooner y k x i ≡ ltb (y * 8 + k) (x * 8 + i)
+sooner-full y k x i h l =
+    by-bool (ltb y x)
+    (λ e. rw e (sym (lt-ltb (y * 8 + k) (x * 8 + i) (omega (arith, ltb-true y x e)))))
+    (λ e. elim (ℕ-discrete y x) [
+      | no d ↦ rw (e, ne-eqb y x d) (sym (le-ltb (y * 8 + k) (x * 8 + i) (omega (arith, ltb-false y x e))))
+      | yes q ↦
+          rw (e, eq-eqb y x q)
+          (by-bool (ltb k i)
+          (λ b. rw b (sym (lt-ltb (y * 8 + k) (x * 8 + i) (omega (arith, ltb-true k i b)))))
+          (λ b. rw b (sym (le-ltb (y * 8 + k) (x * 8 + i) (omega (arith, ltb-false k i b))))))
+    ])
 
 module _ (places : List ℕ) where
   -- ---- the ranks, one place counted a turn
@@ -29,64 +43,99 @@ module _ (places : List ℕ) where
     pub rank-read : getD ranks j 0 ≡ rank places i j
     rank-read = ap (λ l. getD l j 0) e ∙ eight-at 0 (rank places i) j h
 
-    pub rank-turn : getD ranks j 0 + boolByte (ltb (getD places i 0) (getD places j 0)) ≡ rank places (i + 1) j
-    unfolding rank under
-    rank-turn = count-turn (under places (getD places j 0)) i rank-read refl
+    pub rank-turn : {b : Bool} → b ≡ sooner (getD places i 0) i (getD places j 0) j → getD ranks j 0 + boolByte b ≡ rank places (i + 1) j
+    unfolding rank leads
+    rank-turn is = count-turn (leads places j) i rank-read is
 
-    pub rank-room : i ≤ 8 → Fits w16 (getD ranks j 0 + boolByte (ltb (getD places i 0) (getD places j 0)))
+    pub rank-room : (b : Bool) → i ≤ 8 → Fits w16 (getD ranks j 0 + boolByte b)
     unfolding rank
-    rank-room k =
-        let f = count-room (under places (getD places j 0)) (ltb (getD places i 0) (getD places j 0)) rank-read k in omega arith
+    rank-room b k = let f = count-room (leads places j) b rank-read k in omega arith
 
   -- ---- how ranks compare
 
-  -- a place below x is below y where x is at most y
-  under-more : (x y k : ℕ) → x ≤ y → under places x k ≡ true → under places y k ≡ true
-  unfolding under
-  under-more x y k l e = lt-ltb (getD places k 0) y (omega (arith, ltb-true (getD places k 0) x e))
+  -- the place of a task with its number below it
+  full : ℕ → ℕ
+  full i = getD places i 0 * 8 + i
 
-  count-more : (x y : ℕ) → x ≤ y → count 8 (under places x) ≤ count 8 (under places y)
-  count-more x y l = count-mono (under places x) (under places y) 8 (λ k h. under-more x y k l)
+  -- how many tasks are below x by it
+  fewer : ℕ → ℕ
+  fewer x = count 8 (λ k. ltb (full k) x)
+
+  under-full : (x i : ℕ) → i < 8 → under places x i ≡ ltb (full i) (x * 8)
+  unfolding under full
+  under-full x i h =
+      by-bool (ltb (getD places i 0) x)
+      (λ e. e ∙ sym (lt-ltb (getD places i 0 * 8 + i) (x * 8) (omega (arith, ltb-true (getD places i 0) x e))))
+      (λ e. e ∙ sym (le-ltb (getD places i 0 * 8 + i) (x * 8) (omega (arith, ltb-false (getD places i 0) x e))))
+
+  under-fewer : (x : ℕ) → count 8 (under places x) ≡ fewer (x * 8)
+  unfolding fewer
+  under-fewer x = count-same (under places x) (λ k. ltb (full k) (x * 8)) 8 (under-full x)
+
+  rank-fewer : (i : ℕ) → i < 8 → rank places 8 i ≡ fewer (full i)
+  unfolding rank leads fewer full
+  rank-fewer i h =
+      count-same (leads places i) (λ k. ltb (full k) (full i)) 8 (λ k b. sooner-full (getD places k 0) k (getD places i 0) i b h)
+
+  kept-fewer : keptCount places ≡ fewer 8
+  unfolding keptCount
+  kept-fewer = under-fewer 1
+
+  ready-fewer : readyCount places ≡ fewer 524280
+  unfolding readyCount
+  ready-fewer = under-fewer 65535
+
+  count-more : (x y : ℕ) → x ≤ y → fewer x ≤ fewer y
+  unfolding fewer
+  count-more x y l =
+      count-mono (λ k. ltb (full k) x) (λ k. ltb (full k) y) 8 (λ k h e. lt-ltb (full k) y (omega (arith, ltb-true (full k) x e)))
 
   -- at most as many keep their processors as are ready
   pub kept-ready : keptCount places ≤ readyCount places
-  unfolding keptCount readyCount
-  kept-ready = count-more 1 65535 (omega arith)
+  kept-ready = omega (arith, kept-fewer, ready-fewer, count-more 8 524280 (omega arith))
 
-  module _ (i : ℕ) where
-    -- all that keep their processors are below any other
+  module _ (i : ℕ) (h : i < 8) where
+    is-under : (x : ℕ) → under places x i ≡ true → full i < x * 8
+    is-under x e = ltb-true (full i) (x * 8) (sym (under-full x i h) ∙ e)
+
+    not-under : (x : ℕ) → under places x i ≡ false → x * 8 ≤ full i
+    not-under x e = ltb-false (full i) (x * 8) (sym (under-full x i h) ∙ e)
+
+    -- all that keep their processors go before any other
     kept-below : under places 1 i ≡ false → keptCount places ≤ rank places 8 i
-    unfolding keptCount rank under
-    kept-below e = count-more 1 (getD places i 0) (ltb-false (getD places i 0) 1 e)
+    kept-below e = omega (arith, kept-fewer, rank-fewer i h, count-more 8 (full i) (not-under 1 e))
 
-    -- all that are ready are below one that is not
+    -- all that are ready go before one that is not
     ready-below : under places 65535 i ≡ false → readyCount places ≤ rank places 8 i
-    unfolding readyCount rank under
-    ready-below e = count-more 65535 (getD places i 0) (ltb-false (getD places i 0) 65535 e)
+    ready-below e = omega (arith, ready-fewer, rank-fewer i h, count-more 524280 (full i) (not-under 65535 e))
 
-  -- a smaller place has a smaller rank
-  rank-less : (i x : ℕ) → i < 8 → getD places i 0 < x → rank places 8 i < count 8 (under places x)
-  unfolding rank under
-  rank-less i x h l =
-      count-less (under places (getD places i 0)) (under places x) i 8 h (λ k b. under-more (getD places i 0) x k (omega arith))
-      (le-ltb (getD places i 0) (getD places i 0) (omega arith)) (lt-ltb (getD places i 0) x l)
+    -- a smaller number has a smaller rank
+    rank-less : (x : ℕ) → full i < x → rank places 8 i < fewer x
+    unfolding fewer
+    rank-less x l =
+        omega (
+          arith,
+          rank-fewer i h,
+          count-less (λ k. ltb (full k) (full i)) (λ k. ltb (full k) x) i 8 h (λ k b e. lt-ltb (full k) x (omega (arith, ltb-true (full k) (full i) e)))
+              (le-ltb (full i) (full i) (omega arith)) (lt-ltb (full i) x l),
+        )
 
-  rank-ready : (i : ℕ) → i < 8 → under places 65535 i ≡ true → rank places 8 i < readyCount places
-  unfolding under readyCount
-  rank-ready i h e = rank-less i 65535 h (ltb-true (getD places i 0) 65535 e)
+    rank-ready : under places 65535 i ≡ true → rank places 8 i < readyCount places
+    rank-ready e = omega (arith, ready-fewer, rank-less 524280 (is-under 65535 e))
 
   -- ---- the tasks chosen with c processors
 
   kept-is-ready : (i : ℕ) → under places 1 i ≡ true → under places 65535 i ≡ true
-  kept-is-ready i = under-more 1 65535 i (omega arith)
+  unfolding under
+  kept-is-ready i e = lt-ltb (getD places i 0) 65535 (omega (arith, ltb-true (getD places i 0) 1 e))
 
   -- with no more processors than jobs that keep theirs, these are chosen
-  pub few-taken : (c i : ℕ) → c ≤ keptCount places → taken places c i ≡ under places 1 i
+  pub few-taken : (c i : ℕ) → i < 8 → c ≤ keptCount places → taken places c i ≡ under places 1 i
   unfolding taken
-  few-taken c i l =
+  few-taken c i h l =
       by-bool (under places 1 i)
       (λ e. rw (e, kept-is-ready i e))
-      (λ e. rw (e, le-ltb (rank places 8 i) c (omega (arith, kept-below i e))) (by-bool (under places 65535 i) (λ b. rw b) (λ b. rw b)))
+      (λ e. rw (e, le-ltb (rank places 8 i) c (omega (arith, kept-below i h e))) (by-bool (under places 65535 i) (λ b. rw b) (λ b. rw b)))
 
   -- with a processor for each that is ready, all are chosen
   pub all-taken : (c i : ℕ) → i < 8 → readyCount places ≤ c → taken places c i ≡ under places 65535 i
@@ -112,7 +161,7 @@ module _ (places : List ℕ) where
   next-taken c i h l e =
       by-bool (under places 65535 i)
       (λ b. rw (b, e, lt-ltb c (c + 1) (omega arith)) (or-right (under places 1 i) refl))
-      (λ b. absurd (omega (arith, ready-below i b)))
+      (λ b. absurd (omega (arith, ready-below i h b)))
 
   pub step-taken :
       (c i : ℕ) → i < 8 → c < readyCount places
@@ -129,7 +178,7 @@ module _ (places : List ℕ) where
   left : ℕ → ℕ → Bool
   left c i = under places 65535 i && not (taken places c i)
 
-  module _ (c x : ℕ) (h : x < 8) (waits : left c x ≡ true) (first : (k : ℕ) → k < 8 → left c k ≡ true → getD places x 0 ≤ getD places k 0) where
+  module _ (c x : ℕ) (h : x < 8) (waits : left c x ≡ true) (first : (k : ℕ) → k < 8 → left c k ≡ true → full x ≤ full k) where
     x-ready : under places 65535 x ≡ true
     unfolding left
     x-ready = and-left (under places 65535 x) (not (taken places c x)) waits
@@ -147,67 +196,64 @@ module _ (places : List ℕ) where
         (λ b. clash (let z : taken places c x ≡ true = rw (x-ready, e, b) in z) x-not)
         (λ b. (e, ltb-false (rank places 8 x) c b)))
 
-    -- what is below the first that waits is chosen
-    below-taken : (k : ℕ) → k < 8 → getD places k 0 < getD places x 0 → taken places c k ≡ true
-    unfolding under left
+    -- what goes before the first that waits is chosen
+    below-taken : (k : ℕ) → k < 8 → full k < full x → taken places c k ≡ true
+    unfolding left
     below-taken k b l =
         by-bool (taken places c k) (λ e. e)
         (λ e.
-        let r : under places 65535 k ≡ true = lt-ltb (getD places k 0) 65535 (omega (arith, ltb-true (getD places x 0) 65535 x-ready)) in
+        let r : under places 65535 k ≡ true = under-full 65535 k b ∙ lt-ltb (full k) 524280 (omega (arith, is-under x h 65535 x-ready)) in
         absurd (omega (arith, first k b (both r (not-yes e)))))
 
-    -- and what is chosen is below it
-    taken-below : (k : ℕ) → k < 8 → taken places c k ≡ true → getD places k 0 < getD places x 0
-    unfolding taken under rank
+    -- and what is chosen goes before it
+    taken-below : (k : ℕ) → k < 8 → taken places c k ≡ true → full k < full x
+    unfolding taken
     taken-below k b e =
-        by-bool (ltb (getD places k 0) (getD places x 0)) (λ l. ltb-true (getD places k 0) (getD places x 0) l)
+        by-bool (ltb (full k) (full x)) (λ l. ltb-true (full k) (full x) l)
         (λ l.
-        let above : getD places x 0 ≤ getD places k 0 = ltb-false (getD places k 0) (getD places x 0) l in
+        let above : full x ≤ full k = ltb-false (full k) (full x) l in
         by-bool (under places 1 k)
-        (λ z. absurd (omega (arith, ltb-true (getD places k 0) 1 z, ltb-false (getD places x 0) 1 (x-fresh .0))))
+        (λ z. absurd (omega (arith, is-under k b 1 z, not-under x h 1 (x-fresh .0))))
         (λ z.
-        let more : rank places 8 x ≤ rank places 8 k = count-more (getD places x 0) (getD places k 0) above in
+        let more : rank places 8 x ≤ rank places 8 k = omega (arith, rank-fewer x h, rank-fewer k b, count-more (full x) (full k) above) in
         let r : ltb (rank places 8 k) c ≡ true = rw z at (and-right (under places 65535 k) (under places 1 k || ltb (rank places 8 k) c) e) in
         absurd (omega (arith, ltb-true (rank places 8 k) c r, x-fresh .1))))
 
-    same-below : (k : ℕ) → k < 8 → under places (getD places x 0) k ≡ taken places c k
-    unfolding under
+    same-below : (k : ℕ) → k < 8 → ltb (full k) (full x) ≡ taken places c k
     same-below k b =
-        by-bool (ltb (getD places k 0) (getD places x 0))
-        (λ l. l ∙ sym (below-taken k b (ltb-true (getD places k 0) (getD places x 0) l)))
-        (λ l. by-bool (taken places c k) (λ e. clash (lt-ltb (getD places k 0) (getD places x 0) (taken-below k b e)) l) (λ e. l ∙ sym e))
+        by-bool (ltb (full k) (full x))
+        (λ l. l ∙ sym (below-taken k b (ltb-true (full k) (full x) l)))
+        (λ l. by-bool (taken places c k) (λ e. clash (lt-ltb (full k) (full x) (taken-below k b e)) l) (λ e. l ∙ sym e))
 
-    -- so as many are below it as are chosen
+    -- so as many go before it as are chosen
     x-rank : rank places 8 x ≡ count 8 (taken places c)
-    unfolding rank
-    x-rank = count-same (under places (getD places x 0)) (taken places c) 8 same-below
+    unfolding fewer
+    x-rank = rank-fewer x h ∙ count-same (λ k. ltb (full k) (full x)) (taken places c) 8 same-below
 
-    -- no other task that waits has its rank
-    alone : Apart places → c ≡ count 8 (taken places c) → (k : ℕ) → k < 8 → (k ≡ x → ⊥) → taken places c k ≡ taken places (c + 1) k
-    unfolding rank
-    alone a n k b d =
+    -- no other task has its rank
+    alone : c ≡ count 8 (taken places c) → (k : ℕ) → k < 8 → (k ≡ x → ⊥) → taken places c k ≡ taken places (c + 1) k
+    unfolding full
+    alone n k b d =
         elim (ℕ-discrete (rank places 8 k) c) [
           | no e ↦ sym (same-taken c k e)
           | yes e ↦
-              by-bool (ltb (getD places k 0) (getD places x 0))
-              (λ l. absurd (omega (arith, x-rank, rank-less k (getD places x 0) b (ltb-true (getD places k 0) (getD places x 0) l))))
+              by-bool (ltb (full k) (full x))
+              (λ l. absurd (omega (arith, x-rank, rank-fewer x h, rank-less k b (full x) (ltb-true (full k) (full x) l))))
               (λ l.
-              by-bool (ltb (getD places x 0) (getD places k 0))
-              (λ m. absurd (omega (arith, x-rank, rank-less x (getD places k 0) h (ltb-true (getD places x 0) (getD places k 0) m))))
-              (λ m.
-              let same : getD places x 0 ≡ getD places k 0 = omega (arith, ltb-false (getD places k 0) (getD places x 0) l, ltb-false (getD places x 0) (getD places k 0) m) in
-              absurd (d (sym (a .apart x k h b x-ready (x-fresh .0) same)))))
+              by-bool (ltb (full x) (full k))
+              (λ m. absurd (omega (arith, x-rank, rank-fewer k b, rank-less x h (full k) (ltb-true (full x) (full k) m))))
+              (λ m. absurd (d (omega (arith, ltb-false (full k) (full x) l, ltb-false (full x) (full k) m)))))
         ]
 
-    one-more : Apart places → c ≡ count 8 (taken places c) → c < readyCount places → c + 1 ≡ count 8 (taken places (c + 1))
-    one-more a n l =
-        let e = count-one-more (taken places c) (taken places (c + 1)) x 8 h (alone a n) x-not (next-taken c x h l (x-rank ∙ sym n)) in
+    one-more : c ≡ count 8 (taken places c) → c < readyCount places → c + 1 ≡ count 8 (taken places (c + 1))
+    one-more n l =
+        let e = count-one-more (taken places c) (taken places (c + 1)) x 8 h (alone n) x-not (next-taken c x h l (x-rank ∙ sym n)) in
         omega arith
 
   -- where c processors have c tasks and one more waits, c + 1 have c + 1
-  pub number-taken : Apart places → (c : ℕ) → c ≡ count 8 (taken places c) → c < readyCount places → c + 1 ≡ count 8 (taken places (c + 1))
+  pub number-taken : (c : ℕ) → c ≡ count 8 (taken places c) → c < readyCount places → c + 1 ≡ count 8 (taken places (c + 1))
   unfolding readyCount left
-  number-taken a c n l =
+  number-taken c n l =
       ⊎-elim
       (λ none.
       absurd
@@ -216,5 +262,5 @@ module _ (places : List ℕ) where
         count-mono (under places 65535) (taken places c) 8
             (λ k h e. by-bool (taken places c k) (λ b. b) (λ b. clash (both e (not-yes b)) (none k h))),
       )))
-      (λ x. one-more c (x .0) (x .1 .below) (x .1 .holds) (x .1 .least) a n l)
-      (least-of (λ k. getD places k 0) (left c) 8)
+      (λ x. one-more c (x .0) (x .1 .below) (x .1 .holds) (x .1 .least) n l)
+      (least-of full (left c) 8)

@@ -74,7 +74,7 @@ module _ (places : List ℕ) (m : ℕ) where
   unfolding served
   kept-served =
       eight-same (λ i. pick (under places 1 i) 1 0) (λ i. pick (taken places (keptCount places) i) 1 0)
-      (λ i h. ap (λ b. pick b 1 0) (sym (few-taken places (keptCount places) i (omega arith))))
+      (λ i h. ap (λ b. pick b 1 0) (sym (few-taken places (keptCount places) i h (omega arith))))
 
   pub walk-start :
       {run : List ℕ} {c : ℕ} → run ≡ eight (λ i. pick (under places 1 i) 1 0) → c ≡ count 8 (under places 1)
@@ -83,7 +83,7 @@ module _ (places : List ℕ) (m : ℕ) where
   walk-start {run} {c} r e = (
     record {
       first = r ∙ kept-served ∙ ap (served places) (sym e);
-      number = λ a. e ∙ sym (tasks-tested (under places 1)) ∙ ap tasksIn (sym r);
+      number = e ∙ sym (tasks-tested (under places 1)) ∙ ap tasksIn (sym r);
       most = omega (arith, most-kept);
     },
     e,
@@ -116,9 +116,9 @@ module _ (places : List ℕ) (m : ℕ) where
       let is : next ≡ served places (c + 1) = n ∙ step-served e (w .first) r in
       record {
         first = is;
-        number = λ a.
-            let before : c ≡ count 8 (taken places c) = w .number a ∙ ap tasksIn (w .first) ∙ served-count c in
-            number-taken places a c before r ∙ sym (served-count (c + 1)) ∙ ap tasksIn (sym is);
+        number =
+            let before : c ≡ count 8 (taken places c) = w .number ∙ ap tasksIn (w .first) ∙ served-count c in
+            number-taken places c before r ∙ sym (served-count (c + 1)) ∙ ap tasksIn (sym is);
         most = omega (arith, most-all);
       }
 
@@ -135,7 +135,7 @@ module _ (places : List ℕ) (m : ℕ) where
   walk-rest {run} {c} r e l =
       record {
         first = r ∙ all-served c (omega arith);
-        number = λ a. e ∙ sym (tasks-tested (under places 65535)) ∙ ap tasksIn (sym r);
+        number = e ∙ sym (tasks-tested (under places 65535)) ∙ ap tasksIn (sym r);
         most = omega (arith, most-all);
       }
 
@@ -145,7 +145,7 @@ module _ (places : List ℕ) (m : ℕ) where
   unfolding served
   few-served c d a b =
       eight-same (λ i. pick (taken places c i) 1 0) (λ i. pick (taken places d i) 1 0)
-      (λ i h. ap (λ b. pick b 1 0) (few-taken places c i a ∙ sym (few-taken places d i b)))
+      (λ i h. ap (λ b. pick b 1 0) (few-taken places c i h a ∙ sym (few-taken places d i h b)))
 
   -- LAW: a walk is over when m processors are given out, or all that are ready have one
   pub walk-full : {run : List ℕ} {c : ℕ} → Walked places m run c → m ≤ c → run ≡ served places m

@@ -5,7 +5,7 @@ ghost use lib.ListN.{getD};
 ghost use mathlib.Core.Bool.{_&&_};
 ghost use lib.Dec.{eqb};
 ghost use Rattle.lists.specs.Lists.{eight, pick, count};
-ghost use Rattle.cores.specs.Walk.{under, rank, keptCount, readyCount, served, Walked};
+ghost use Rattle.cores.specs.Walk.{under, sooner, rank, keptCount, readyCount, served, Walked};
 
 // A walk on its way: 1 for each task that has been given a processor and 0 for the others, and how many have been given out.
 struct Walk {
@@ -39,7 +39,29 @@ fn below(places: [u16; 8], x: u16) -> [u16; 8]
     out
 }
 
-// The ranks of all tasks, with place i counted too: one more for each task whose place is above it.
+// Whether a task with place y and number k goes before one with place x and number i.
+fn sooner(y: u16, k: usize, x: u16, i: usize) -> bool
+    ensures { λ r. ⌜ r ≡ sooner y k x i ⌝ }
+{
+    (y < x) | ((y == x) & (k < i))
+}
+
+// How many tasks go before task i.
+fn count_before(places: [u16; 8], i: usize) -> u16
+    requires { ⌜ i < 8 ⌝ }
+    ensures { λ r. ⌜ (r ≡ rank places 8 i) × (r ≤ 8) ⌝ }
+{
+    let x = places[i];
+    let mut n: u16 = 0;
+    let mut k: usize = 0;
+    while k < 8 {
+        n += sooner(places[k], k, x, i) as u16;
+        k += 1;
+    }
+    n
+}
+
+// The ranks of all tasks, with task i counted too: one more for each task that it goes before.
 fn count_place(ranks: [u16; 8], places: [u16; 8], i: usize) -> [u16; 8]
     requires { ⌜ (i < 8) × (ranks ≡ eight (rank places i)) ⌝ }
     ensures { λ r. ⌜ r ≡ eight (rank places (i + 1)) ⌝ }
@@ -48,13 +70,13 @@ fn count_place(ranks: [u16; 8], places: [u16; 8], i: usize) -> [u16; 8]
     let mut out = [0u16; 8];
     let mut j: usize = 0;
     while j < 8 {
-        out[j] = ranks[j] + ((y < places[j]) as u16);
+        out[j] = ranks[j] + (sooner(y, i, places[j], j) as u16);
         j += 1;
     }
     out
 }
 
-// For each task, how many places are below its own.
+// For each task, how many go before it.
 fn ranks(places: [u16; 8]) -> [u16; 8]
     ensures { λ r. ⌜ r ≡ eight (rank places 8) ⌝ }
 {
@@ -75,7 +97,7 @@ fn ranks_singly(places: [u16; 8]) -> [u16; 8]
     let mut out = [0u16; 8];
     let mut i: usize = 0;
     while i < 8 {
-        out[i] = count_below(places, places[i]);
+        out[i] = count_before(places, i);
         i += 1;
     }
     out

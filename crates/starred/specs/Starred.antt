@@ -91,3 +91,14 @@ leastSlack =
     -- policy 5: refused with 4
     ∷ record { asks = replay (crowded 5) []; says = 0 ∷ 4 ∷ [] }
     ∷ []
+
+-- ---- equal deadlines told apart by age (document 02, §4)
+
+-- what the order by task number alone answers otherwise: the first Safe 22, the second Unsafe 3 13
+abbrev pub byAge : List Example
+byAge =
+    -- 3/2: (1,2,2),(2,2,2),(2,4,4): Unsafe 3 15, masks 7, 0, 3
+    record { asks = verdict (table 3 2 (task 1 2 2 ∷ task 2 2 2 ∷ task 2 4 4 ∷ [])) 15; says = 2 ∷ 3 ∷ 15 ∷ 7 ∷ 0 ∷ 3 ∷ [] }
+    -- 3/2: (1,2,2),(1,2,2),(3,4,4): Safe 22
+    ∷ record { asks = verdict (table 3 2 (task 1 2 2 ∷ task 1 2 2 ∷ task 3 4 4 ∷ [])) 22; says = 1 ∷ 0 ∷ 22 ∷ [] }
+    ∷ []

@@ -17,7 +17,7 @@ use Rattle.tasks.specs.declared.ticker.Ticker.{Ticker}
 use Rattle.lists.proofs.Bools.{by-bool, clash}
 use Rattle.tasks.proofs.More.{full-legal, full-miss}
 use Rattle.tasks.proofs.Free.{ticks, frees, free-full}
-use Rattle.tasks.proofs.InWords.{TableBytes, WordList}
+use Rattle.tasks.proofs.InWords.{WordList}
 use Rattle.tasks.proofs.NoMiss.{miss-tight}
 use Rattle.levels.specs.Levels.{Calm}
 use Rattle.levels.proofs.Legal.{calm-legal}
@@ -49,11 +49,11 @@ module _ (t : Table) (valid : tableFault t ≡ 0) (s : State) (proper : improper
       omega arith))
 
   -- LAW: the test of a state by its words
-  module _ {v : List ℕ} (here : stateOf v ≡ s) {ticker : Ticker} (is : ticker ≡ tickerOf t) (bytes : TableBytes t) (words : WordList v) where
+  module _ {v : List ℕ} (here : stateOf v ≡ s) {ticker : Ticker} (is : ticker ≡ tickerOf t) (words : WordList v) where
     pub full-by : fullBy t ticker v ≡ missed t (after t s (freeMask t s))
     unfolding fullBy
     full-by =
-        ap (missed t) (ticks t v is refl bytes words (freeBy ticker v))
+        ap (missed t) (ticks t v is refl valid (ap (improper t) here ∙ proper) words (freeBy ticker v))
         ∙ ap (λ m. missed t (after t (stateOf v) m)) (frees t v is refl)
         ∙ ap (λ u. missed t (after t u (freeMask t u))) here
 

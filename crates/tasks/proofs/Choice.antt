@@ -9,18 +9,18 @@ use lib.ListN.{getD}
 use borrow.Author.Tests.{ltb-true}
 use Rattle.lists.specs.Lists.{count}
 use Rattle.tasks.specs.State.{ready, keeps}
-use Rattle.tasks.specs.Tick.{key, before, ahead, runs}
+use Rattle.tasks.specs.Tick.{key, age, before, ahead, runs}
 use Rattle.tasks.specs.declared.state.State.{State}
 use Rattle.tasks.specs.declared.table.Table.{Table}
 use Rattle.lists.proofs.Bools.{by-bool, clash, and-left, and-right, both, or-left, or-right, or-cases, not-yes, not-no}
 use Rattle.lists.proofs.Counts.{count-mono, count-but-one}
-use Rattle.tasks.proofs.Order.{Order, by-number, by-key, Last, last}
+use Rattle.tasks.proofs.Order.{Order, by-number, upward, downward, by-rank, Last, last}
 
 module _ (t : Table) (s : State) where
   -- LAW: the order of the jobs is strict and total, whatever the policy
   pub in-order : Order (before t s)
   unfolding before
-  in-order = by-key (key t s) ltb by-number
+  in-order = by-rank _ _ (upward (key t s)) (by-rank _ ltb (downward (age t s)) by-number)
 
   -- task i runs, and its job kept no processor
   fresh : ℕ → Bool

@@ -10,6 +10,8 @@ use lib.Dec.{eqb, ltb}
 use lib.ListN.{getD}
 use borrow.Author.Tests.{eqb-true, eq-eqb, ne-eqb, ltb-true, lt-ltb, le-ltb}
 use Rattle.lists.specs.Lists.{pick, byteOf}
+use Rattle.tasks.specs.Table.{tableFault}
+use Rattle.tasks.specs.State.{improper}
 use Rattle.tasks.specs.Tick.{bit, after}
 use Rattle.tasks.specs.Masks.{releasable, freeMask}
 use Rattle.tasks.specs.Words.{stateOf}
@@ -22,7 +24,7 @@ use Rattle.lists.proofs.Bools.{and-left, and-right, both}
 use Rattle.lists.proofs.Fill.{eight-at}
 use Rattle.tasks.proofs.InWords.{gap-word}
 use Rattle.tasks.proofs.More.{Full}
-use Rattle.tasks.proofs.InWords.{TableBytes, WordList}
+use Rattle.tasks.proofs.InWords.{WordList}
 use Rattle.tasks.proofs.Ticking.{ticker-after}
 
 -- ---- the bits of a byte
@@ -137,9 +139,11 @@ free-by t v = byte-same (λ i. ltb (getD v i 0) (getD (tickerOf t .limit) i 0)) 
 -- ---- what a search cites
 
 module _ (t : Table) (v : List ℕ) {ticker : Ticker} (e : ticker ≡ tickerOf t) where
-  -- LAW: for a ticker of table t and a state made ready from s, the words after a mask are those of `after t s mask`
-  pub ticks : {state : Prepared} → state ≡ preparedBy ticker v → TableBytes t → WordList v → (mask : ℕ) → stateOf (tickedBy ticker state mask) ≡ after t (stateOf v) mask
-  ticks p bytes words mask = rw (p, e) (ticker-after t v mask bytes words)
+  -- LAW: for a ticker of a valid table t and a proper state s made ready, the words after a mask are those of `after t s mask`
+  pub ticks :
+      {state : Prepared} → state ≡ preparedBy ticker v → tableFault t ≡ 0 → improper t (stateOf v) ≡ false → WordList v → (mask : ℕ)
+      → stateOf (tickedBy ticker state mask) ≡ after t (stateOf v) mask
+  ticks p valid proper words mask = rw (p, e) (ticker-after t v mask valid proper words)
 
   -- LAW: and its mask is that of all tasks that may be released
   pub frees : {free : ℕ} → free ≡ freeBy ticker v → free ≡ freeMask t (stateOf v)

@@ -15,12 +15,6 @@ use Rattle.tasks.specs.declared.state.State.{State}
 use Rattle.tasks.specs.declared.table.Table.{Table}
 use Rattle.lists.proofs.Fill.{eight-at}
 
--- the table's numbers are bytes
-pub record TableBytes (t : Table) : Type 0 where
-  pub work : (i : ℕ) → i < 8 → Fits w8 (getD (t .work) i 0)
-  pub deadline : (i : ℕ) → i < 8 → Fits w8 (getD (t .deadline) i 0)
-  pub gap : (i : ℕ) → i < 8 → Fits w8 (getD (t .gap) i 0)
-
 -- the state's numbers are bytes, eight of each
 pub record StateBytes (s : State) : Type 0 where
   pub c-length : length (s .c) ≡ 8

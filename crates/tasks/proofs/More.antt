@@ -10,7 +10,7 @@ use borrow.Author.Tests.{ltb-true, ltb-false, lt-ltb, le-ltb, eqb-true, eq-eqb}
 use Rattle.lists.specs.Lists.{count}
 use Rattle.tasks.specs.Table.{tableFault}
 use Rattle.tasks.specs.State.{ready, started, keeps, late, improper}
-use Rattle.tasks.specs.Tick.{bit, illegal, released, key, before, ahead, runs, after, missed}
+use Rattle.tasks.specs.Tick.{bit, illegal, released, key, age, before, ahead, runs, after, missed}
 use Rattle.tasks.specs.declared.state.State.{State}
 use Rattle.tasks.specs.declared.table.Table.{Table}
 use Rattle.lists.proofs.Bools.{by-bool, clash, and-left, and-right, both, or-left, or-right, or-cases}
@@ -36,9 +36,13 @@ module _ (t : Table) (a b : State) where
   unfolding key
   same-key i e = rw (e .c, e .p)
 
+  same-age : (i : ℕ) → Same a b i → age t a i ≡ age t b i
+  unfolding age
+  same-age i e = rw (e .p)
+
   same-before : (j i : ℕ) → Same a b j → Same a b i → before t a j i ≡ before t b j i
   unfolding before
-  same-before j i e h = rw (same-key j e, same-key i h)
+  same-before j i e h = rw (same-key j e, same-key i h, same-age j e, same-age i h)
 
   -- b has every job of a, and perhaps more: then what is ahead in a is so in b
   module _ (more : (k : ℕ) → k < 8 → (ready a k ≡ false) ⊎ Same a b k) (i : ℕ) (h : i < 8) (same : Same a b i) where

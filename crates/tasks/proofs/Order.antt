@@ -1,7 +1,7 @@
--- Strict total orders: by task number, by a signed key first, and the last of those that pass a test. Assumes nothing.
+-- Strict total orders: by task number, by a signed number first, how many go before, and the last of those that pass a test. Assumes nothing.
 use Prim.Native.Nat.{ℕ, zero, suc, _<_}
-use mathlib.Core.Path.{_≡_, refl, ap, _∙_}
-use mathlib.Core.Bool.{Bool, true, false, not, _&&_}
+use mathlib.Core.Path.{_≡_, refl, ap}
+use mathlib.Core.Bool.{Bool, true, false, not, _&&_, _||_}
 use mathlib.Core.Logic.{_⊎_, inl, inr, ⊎-elim}
 use native.Mathlib.Omega.{arith}
 use native.Mathlib.Decide.{ℕ-discrete}
@@ -9,8 +9,9 @@ use lib.Dec.{ltb}
 use lib.IntN.{ℤ, pos, negsuc}
 use lib.Signed.{ltZ}
 use borrow.Author.Tests.{ltb-true, ltb-false, lt-ltb, le-ltb}
-use Rattle.tasks.specs.Tick.{lex}
+use Rattle.lists.specs.Lists.{count}
 use Rattle.lists.proofs.Bools.{by-bool, clash, and-left, and-right, both, or-left, or-right, or-cases, not-yes, not-no}
+use Rattle.lists.proofs.Counts.{count-less}
 
 -- ---- a strict total order
 
@@ -47,47 +48,83 @@ ltZ-irrefl : (a : ℤ) → ltZ a a ≡ false
 ltZ-irrefl (pos a) = le-ltb a a (omega arith)
 ltZ-irrefl (negsuc a) = le-ltb a a (omega arith)
 
--- keys first, and B among equal keys
-module _ (key : ℕ → ℤ) (B : ℕ → ℕ → Bool) (o : Order B) where
+-- ---- by a number first, and in another order among equal ones
+
+-- L compares by a number of each, which others may have too
+pub record Ranked (L : ℕ → ℕ → Bool) : Type 0 where
+  pub trans : (i j k : ℕ) → L i j ≡ true → L j k ≡ true → L i k ≡ true
+  pub irrefl : (i : ℕ) → L i i ≡ false
+  pub left : (i j k : ℕ) → L i j ≡ false → L j i ≡ false → L j k ≡ true → L i k ≡ true
+  pub right : (i j k : ℕ) → L j k ≡ false → L k j ≡ false → L i j ≡ true → L i k ≡ true
+
+-- the smaller number first
+pub upward : (key : ℕ → ℤ) → Ranked (λ i j. ltZ (key i) (key j))
+upward key =
+    record {
+      trans = λ i j k. ltZ-trans (key i) (key j) (key k);
+      irrefl = λ i. ltZ-irrefl (key i);
+      left = λ i j k e h l. rw (ltZ-same (key i) (key j) e h) l;
+      right = λ i j k e h l. rw (ltZ-same (key k) (key j) h e) l;
+    }
+
+-- the greater number first
+pub downward : (key : ℕ → ℤ) → Ranked (λ i j. ltZ (key j) (key i))
+downward key =
+    record {
+      trans = λ i j k e h. ltZ-trans (key k) (key j) (key i) h e;
+      irrefl = λ i. ltZ-irrefl (key i);
+      left = λ i j k e h l. rw (ltZ-same (key i) (key j) h e) l;
+      right = λ i j k e h l. rw (ltZ-same (key k) (key j) e h) l;
+    }
+
+module _ (L B : ℕ → ℕ → Bool) (r : Ranked L) (o : Order B) where
   first : ℕ → ℕ → Bool
-  first i j = lex (key i) (key j) (B i j)
+  first i j = L i j || (not (L j i) && B i j)
 
-  lex-less : (a b : ℤ) (r : Bool) → ltZ a b ≡ true → lex a b r ≡ true
-  lex-less a b r e = or-left (not (ltZ b a) && r) e
+  first-less : (i j : ℕ) → L i j ≡ true → first i j ≡ true
+  unfolding first
+  first-less i j e = or-left (not (L j i) && B i j) e
 
-  lex-equal : (a b : ℤ) (r : Bool) → a ≡ b → r ≡ true → lex a b r ≡ true
-  lex-equal a b r e h = or-right (ltZ a b) (both (not-yes {a = ltZ b a} (rw e (ltZ-irrefl b))) h)
+  first-equal : (i j : ℕ) → L j i ≡ false → B i j ≡ true → first i j ≡ true
+  unfolding first
+  first-equal i j e h = or-right (L i j) (both (not-yes e) h)
 
-  lex-cases : {X : Type 0} (a b : ℤ) (r : Bool) → lex a b r ≡ true → (ltZ a b ≡ true → X) → (a ≡ b → r ≡ true → X) → X
-  lex-cases a b r e f g =
-      or-cases (ltZ a b) (not (ltZ b a) && r) e f
-      (λ h k. g (ltZ-same a b h (not-no (ltZ b a) (and-left (not (ltZ b a)) r k))) (and-right (not (ltZ b a)) r k))
+  first-cases : {X : Type 0} (i j : ℕ) → first i j ≡ true → (L i j ≡ true → X) → (L i j ≡ false → L j i ≡ false → B i j ≡ true → X) → X
+  unfolding first
+  first-cases i j e f g =
+      or-cases (L i j) (not (L j i) && B i j) e f
+      (λ h k. g h (not-no (L j i) (and-left (not (L j i)) (B i j) k)) (and-right (not (L j i)) (B i j) k))
 
   first-trans : (i j k : ℕ) → first i j ≡ true → first j k ≡ true → first i k ≡ true
-  unfolding first
   first-trans i j k e h =
-      lex-cases (key i) (key j) (B i j) e
-      (λ l. lex-cases (key j) (key k) (B j k) h
-      (λ m. lex-less (key i) (key k) (B i k) (ltZ-trans (key i) (key j) (key k) l m))
-      (λ m r. lex-less (key i) (key k) (B i k) (rw m at l)))
-      (λ l r. lex-cases (key j) (key k) (B j k) h
-      (λ m. lex-less (key i) (key k) (B i k) (rw l m))
-      (λ m s. lex-equal (key i) (key k) (B i k) (l ∙ m) (o .trans i j k r s)))
+      first-cases i j e
+      (λ l. first-cases j k h (λ m. first-less i k (r .trans i j k l m)) (λ m n b. first-less i k (r .right i j k m n l)))
+      (λ l n b.
+      first-cases j k h
+      (λ m. first-less i k (r .left i j k l n m))
+      (λ m q d.
+      first-equal i k
+      (by-bool (L k i) (λ z. clash (r .right k i j l n z) q) (λ z. z))
+      (o .trans i j k b d)))
 
   first-total : (i j : ℕ) → (i ≡ j → ⊥) → first i j ≡ false → first j i ≡ true
-  unfolding first
   first-total i j d e =
-      by-bool (ltZ (key j) (key i)) (λ h. lex-less (key j) (key i) (B j i) h)
-      (λ h. by-bool (ltZ (key i) (key j)) (λ k. clash (lex-less (key i) (key j) (B i j) k) e)
-      (λ k. by-bool (B i j)
-      (λ b. clash (lex-equal (key i) (key j) (B i j) (ltZ-same (key i) (key j) k h) b) e)
-      (λ b. lex-equal (key j) (key i) (B j i) (ltZ-same (key j) (key i) h k) (o .total i j d b))))
+      by-bool (L j i) (λ h. first-less j i h)
+      (λ h. by-bool (L i j) (λ k. clash (first-less i j k) e)
+      (λ k. by-bool (B i j) (λ b. clash (first-equal i j h b) e) (λ b. first-equal j i k (o .total i j d b))))
 
-  -- which is a strict total order again
-  pub by-key : Order (λ i j. lex (key i) (key j) (B i j))
+  -- LAW: which is a strict total order again
+  pub by-rank : Order (λ i j. L i j || (not (L j i) && B i j))
   unfolding first
-  by-key =
-      record { trans = first-trans; total = first-total; irrefl = λ i. rw (ltZ-irrefl (key i), o .irrefl i) }
+  by-rank =
+      record { trans = first-trans; total = first-total; irrefl = λ i. rw (r .irrefl i, o .irrefl i) }
+
+-- ---- how many go before
+
+module _ (B : ℕ → ℕ → Bool) (o : Order B) where
+  -- LAW: what goes before another has fewer before it
+  pub fewer-before : (n j i : ℕ) → j < n → B j i ≡ true → count n (λ k. B k j) < count n (λ k. B k i)
+  fewer-before n j i h e = count-less (λ k. B k j) (λ k. B k i) j n h (λ k l b. o .trans k j i b e) (o .irrefl j) e
 
 -- ---- the last of those that pass a test
 

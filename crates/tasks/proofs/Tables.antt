@@ -44,10 +44,11 @@ pub record Valid (t : Table) : Type 0 where
   pub each : (i : ℕ) → i < t .n → FitTask (getD (t .work) i 0) (getD (t .deadline) i 0) (getD (t .gap) i 0)
   pub rest : (i : ℕ) → t .n ≤ i → i < 8 → (getD (t .work) i 0 ≡ 0) × (getD (t .deadline) i 0 ≡ 0) × (getD (t .gap) i 0 ≡ 0)
 
--- C ≤ D ≤ P of task i
+-- C ≤ D ≤ P ≤ 200 of task i
 pub record Ordered (t : Table) (i : ℕ) : Type 0 where
   pub work : getD (t .work) i 0 ≤ getD (t .deadline) i 0
   pub deadline : getD (t .deadline) i 0 ≤ getD (t .gap) i 0
+  pub least : getD (t .gap) i 0 ≤ 200
 
 -- a refusal that is 0 was not picked
 pub pick-zero : (b : Bool) (k r : ℕ) → 0 < k → pick b k r ≡ 0 → (b ≡ false) × (r ≡ 0)
@@ -109,10 +110,10 @@ module _ (t : Table) where
       rw
       (le-ltb lastPolicy (t .policy) (v .policy), inside-no (t .m) (v .processors .0) (v .processors .1), inside-no (t .n) (v .tasks .0) (v .tasks .1), none-any (faultAt t) 8 (fault-none v))
 
-  -- C ≤ D ≤ P for every entry, also after the nth, where all are 0
+  -- C ≤ D ≤ P ≤ 200 for every entry, also after the nth, where all are 0
   pub ordered : tableFault t ≡ 0 → (i : ℕ) → i < 8 → Ordered t i
   ordered e i h =
       let v = valid e in
       by-bool (ltb i (t .n))
-      (λ l. let f = v .each i (ltb-true i (t .n) l) in record { work = f .order; deadline = f .close })
-      (λ l. let z = v .rest i (ltb-false i (t .n) l) h in record { work = omega (arith, z .0); deadline = omega (arith, z .1) })
+      (λ l. let f = v .each i (ltb-true i (t .n) l) in record { work = f .order; deadline = f .close; least = f .short })
+      (λ l. let z = v .rest i (ltb-false i (t .n) l) h in record { work = omega (arith, z .0); deadline = omega (arith, z .1); least = omega (arith, z .2) })

@@ -1,33 +1,36 @@
--- A tick of a table and a state made ready is the tick of the model. Assumes nothing.
+-- From a proper state a tick of a table and a state made ready is the tick of the model. Assumes nothing.
 use Prim.Native.Nat.{ℕ, zero, suc, _+_, _-_, _*_, _/_, _%_, _^_, _<_}
 use mathlib.Core.Path.{_≡_, refl, sym, ap, ap₂, _∙_}
 use mathlib.Core.List.{List}
-use mathlib.Core.Bool.{Bool, true, false, not, _&&_}
+use mathlib.Core.Bool.{Bool, true, false, not, _&&_, _||_}
 use native.Mathlib.Omega.{arith}
-use lib.Bits.{bitAnd, and-zero-r, and-mask}
+use native.Mathlib.Decide.{ℕ-discrete}
+use lib.Bits.{bitAnd}
 use lib.Dec.{eqb, ltb}
 use lib.ListN.{getD}
-use mir.Syntax.{w8, w16}
-use mir.Val.{Fits}
-use borrow.Author.Tests.{le-ltb, ltb-false}
+use lib.Signed.{ltZ}
+use borrow.Author.Tests.{eq-eqb, ne-eqb, ltb-true, ltb-false, lt-ltb, le-ltb}
 use Rattle.lists.specs.Lists.{eight, pick}
-use Rattle.tasks.specs.State.{start, notPreempted, started, keeps}
-use Rattle.tasks.specs.Tick.{bit, released, key, runs, chosen, ranAt, fallen, ran, after}
-use Rattle.jobs.specs.Job.{jobKey}
-use Rattle.jobs.specs.Place.{raised}
-use Rattle.jobs.proofs.Keys.{raised-key}
-use Rattle.cores.specs.Walk.{taken}
-use Rattle.tasks.specs.Places.{place}
+use Rattle.jobs.specs.Job.{lex}
+use Rattle.jobs.specs.Place.{gapMask, workMask}
+use Rattle.jobs.proofs.Places.{InTime, jobPlace, place-less, place-range}
+use Rattle.cores.specs.Walk.{sooner, taken}
+use Rattle.tasks.specs.Table.{tableFault}
+use Rattle.tasks.specs.State.{start, notPreempted, ready, started, keeps, improper}
+use Rattle.tasks.specs.Tick.{bit, released, key, age, before, runs, chosen, ranAt, fallen, ran, after}
 use Rattle.tasks.specs.Words.{wordsOf, stateOf}
-use Rattle.tasks.specs.Ticker.{baseAt, tickerOf, oldPlace, oldWord, preparedBy, selected, lowered, tickedBy}
+use Rattle.tasks.specs.Ticker.{placeIn, placesIn, keptAt, baseAt, tickerOf, oldWord, preparedBy, selected, lowered, tickedBy}
 use Rattle.tasks.specs.declared.state.State.{State}
 use Rattle.tasks.specs.declared.table.Table.{Table}
 use Rattle.lists.proofs.Bools.{by-bool}
 use Rattle.lists.proofs.Fill.{eight-at, eight-same}
+use Rattle.tasks.proofs.Tables.{ordered}
 use Rattle.tasks.proofs.Choice.{runs-work}
-use Rattle.tasks.proofs.Place.{Bytes, taken-runs}
+use Rattle.tasks.proofs.Late.{not-late}
+use Rattle.tasks.proofs.Proper.{proper-task}
+use Rattle.tasks.proofs.Place.{Waits, Placed, taken-runs}
 use Rattle.tasks.proofs.Bits.{mask-test}
-use Rattle.tasks.proofs.InWords.{TableBytes, StateBytes, WordList, state-same, words-at, words-fit, words-state}
+use Rattle.tasks.proofs.InWords.{StateBytes, WordList, state-same, words-at, words-fit, words-state, work-word, gap-word}
 use Rattle.tasks.proofs.After.{work-on, work-off, gap-on, gap-off}
 
 -- ---- a mask's bits
@@ -46,49 +49,129 @@ full (suc (suc (suc (suc (suc (suc (suc (suc i)))))))) h = absurd (omega arith)
 
 -- ---- the places
 
--- a place is made of the two numbers of its task
-place-same : (t : Table) (s u : State) (i : ℕ) → getD (s .c) i 0 ≡ getD (u .c) i 0 → getD (s .p) i 0 ≡ getD (u .p) i 0 → place t s i ≡ place t u i
-unfolding place keeps started key
+-- the place of task i by its two numbers
+jobAt : Table → State → ℕ → ℕ
+jobAt t s i = jobPlace (t .policy) (getD (t .deadline) i 0) (getD (t .gap) i 0) (getD (s .p) i 0) (getD (s .c) i 0)
+
+placeAt : Table → State → ℕ → ℕ
+placeAt t s i = pick (ready s i) (pick (keeps t s i) 0 (jobAt t s i)) 65535
+
+-- it is made of the two numbers, and of no other
+place-same : (t : Table) (s u : State) (i : ℕ) → getD (s .c) i 0 ≡ getD (u .c) i 0 → getD (s .p) i 0 ≡ getD (u .p) i 0 → placeAt t s i ≡ placeAt t u i
+unfolding placeAt jobAt keeps started
 place-same t s u i e h = rw (e, h)
 
 stays-test : (stays : Bool) (c work : ℕ) → ltb c (pick stays work 0) ≡ stays && ltb c work
 stays-test true c work = refl
 stays-test false c work = le-ltb c 0 (omega arith)
 
-bits-all : (x : ℕ) → Fits w8 x → bitAnd x 255 ≡ x
-bits-all x h = and-mask x 8 ∙ omega arith
-
--- what the two numbers of a task add to its base gives its key
-key-old :
-    (policy d g p c i : ℕ) → i < 8 → Fits w8 d → Fits w8 g → Fits w8 p → Fits w8 c
-    → (bitAnd p (pick (ltb policy 2) 0 255) * 8 + (raised (jobKey policy d g 0 0) * 8 + i) + 65536 - bitAnd c (pick (ltb policy 4) 0 255) * 8) % 65536
-    ≡ raised (jobKey policy d g p c) * 8 + i
-key-old policy d g p c i h fd fg fp fc =
-    rw (raised-key policy d g 0 0 fd fg none none, raised-key policy d g p c fd fg fp fc)
-    (by-bool (ltb policy 4)
-    (λ e. rw (e, and-zero-r c)
-    (by-bool (ltb policy 2)
-    (λ k. rw (k, and-zero-r p) (omega arith))
-    (λ k. rw (k, bits-all p fp) (omega arith))))
-    (λ e. rw (e, le-ltb policy 2 (omega (arith, ltb-false policy 4 e)), bits-all p fp, bits-all c fc) (omega arith)))
-  where
-    none : Fits w8 0
-    none = record { fits = omega arith }
-
-place-old :
-    (t : Table) (s : State) (i w : ℕ) → i < 8 → TableBytes t → Fits w16 w → getD (s .c) i 0 ≡ w % 256 → getD (s .p) i 0 ≡ w / 256
-    → oldPlace (pick (ltb (t .policy) 2) 0 255) (pick (ltb (t .policy) 4) 0 255) (pick (notPreempted t) (getD (t .work) i 0) 0) (baseAt t i) w
-    ≡ place t s i
-unfolding oldPlace place keeps started key baseAt
-place-old t s i w h b f e k =
+place-word :
+    (t : Table) (s : State) (i w : ℕ) → getD (s .c) i 0 ≡ w % 256 → getD (s .p) i 0 ≡ w / 256
+    → placeIn (gapMask (t .policy)) (workMask (t .policy)) (keptAt t i) (baseAt t i) w ≡ placeAt t s i
+unfolding placeIn placeAt jobAt keptAt baseAt keeps started
+place-word t s i w e k =
     rw (e, k)
     (by-bool (ltb 0 (w % 256))
     (λ r.
     rw r
-    (ap₂ (λ y x. pick y 0 x)
-    (stays-test (notPreempted t) (w % 256) (getD (t .work) i 0))
-    (key-old (t .policy) (getD (t .deadline) i 0) (getD (t .gap) i 0) (w / 256) (w % 256) i h (b .deadline i h) (b .gap i h) (record { fits = omega (arith, f) }) (record { fits = omega arith }))))
+    (ap
+    (λ y. pick y 0 (jobPlace (t .policy) (getD (t .deadline) i 0) (getD (t .gap) i 0) (w / 256) (w % 256)))
+    (stays-test (notPreempted t) (w % 256) (getD (t .work) i 0))))
     (λ r. rw r))
+
+-- the places of eight words, by the table made ready
+places-word :
+    (t : Table) (v : List ℕ) (i : ℕ) → i < 8
+    → getD (placesIn (eight (λ i. gapMask (t .policy))) (eight (λ i. workMask (t .policy))) (eight (keptAt t)) (eight (baseAt t)) v) i 0
+    ≡ placeIn (gapMask (t .policy)) (workMask (t .policy)) (keptAt t i) (baseAt t i) (getD v i 0)
+unfolding placesIn
+places-word t v i h =
+    eight-at 0 (λ i. placeIn (getD (eight (λ i. gapMask (t .policy))) i 0) (getD (eight (λ i. workMask (t .policy))) i 0) (getD (eight (keptAt t)) i 0) (getD (eight (baseAt t)) i 0) (getD v i 0)) i h
+    ∙ ap₂ (λ x y. placeIn x y (getD (eight (keptAt t)) i 0) (getD (eight (baseAt t)) i 0) (getD v i 0))
+    (eight-at 0 (λ i. gapMask (t .policy)) i h)
+    (eight-at 0 (λ i. workMask (t .policy)) i h)
+    ∙ ap₂ (λ x y. placeIn (gapMask (t .policy)) (workMask (t .policy)) x y (getD v i 0))
+    (eight-at 0 (keptAt t) i h)
+    (eight-at 0 (baseAt t) i h)
+
+-- ---- the places of a state after a release, from a proper one
+
+-- a test by two numbers, the second where the first are equal, and by the task numbers where both are
+three : (a b x y n : Bool) → (a || (not b && x)) || (not (b || (not a && y)) && n) ≡ (a || (not b && (x || (not y && n))))
+three true b x y n = refl
+three false true x y n = refl
+three false false x y n = refl
+
+-- a place goes before another where it is smaller, or is not greater and its task's number is smaller
+sooner-less : (y k x i : ℕ) → sooner y k x i ≡ (ltb y x || (not (ltb x y) && ltb k i))
+sooner-less y k x i =
+    by-bool (ltb y x) (λ e. rw e)
+    (λ e.
+    elim (ℕ-discrete y x) [
+      | yes q ↦ rw (e, eq-eqb y x q, le-ltb x y (omega arith))
+      | no d ↦ rw (e, ne-eqb y x d, lt-ltb x y (omega (arith, ltb-false y x e)))
+    ])
+
+module _ (t : Table) (s : State) (mask : ℕ) (valid : tableFault t ≡ 0) (proper : improper t s ≡ false) where
+  -- a job after the release is in time
+  in-time : (i : ℕ) → i < 8 → ready (released t s mask) i ≡ true → InTime (getD (t .deadline) i 0) (getD (t .gap) i 0) (getD (released t s mask .p) i 0) (getD (released t s mask .c) i 0)
+  in-time i h r =
+      let o = ordered t valid i h in
+      by-bool (bit mask i)
+      (λ e.
+      let c = work-on t s mask i h e in
+      let p = gap-on t s mask i h e in
+      record { least = o .least; deadline = o .deadline; gap = omega arith; kept = omega (arith, o .work) })
+      (λ e.
+      let c = work-off t s mask i h e in
+      let p = gap-off t s mask i h e in
+      let f = proper-task t s proper i h in
+      let job = ltb-true 0 (getD (released t s mask .c) i 0) r in
+      record { least = o .least; deadline = o .deadline; gap = omega (arith, f .gap); kept = omega (arith, not-late t s i (f .kept) (omega arith)) })
+
+  abbrev after-release : State
+  after-release = released t s mask
+
+  place-free : (i : ℕ) → Waits t after-release i → placeAt t after-release i ≡ jobAt t after-release i
+  unfolding placeAt
+  place-free i w = rw (w .has, w .free)
+
+  job-less :
+      (j i : ℕ) → Waits t after-release j → Waits t after-release i
+      → ltb (jobAt t after-release j) (jobAt t after-release i)
+      ≡ lex (key t after-release j) (key t after-release i) (ltZ (age t after-release i) (age t after-release j))
+  unfolding jobAt key age
+  job-less j i w x =
+      place-less (t .policy) (getD (t .deadline) j 0) (getD (t .gap) j 0) (getD (after-release .p) j 0) (getD (after-release .c) j 0)
+      (getD (t .deadline) i 0) (getD (t .gap) i 0) (getD (after-release .p) i 0) (getD (after-release .c) i 0)
+      (in-time j (w .small) (w .has)) (in-time i (x .small) (x .has))
+
+  job-before :
+      (j i : ℕ) → Waits t after-release j → Waits t after-release i
+      → sooner (jobAt t after-release j) j (jobAt t after-release i) i ≡ before t after-release j i
+  unfolding before
+  job-before j i w x =
+      sooner-less (jobAt t after-release j) j (jobAt t after-release i) i
+      ∙ rw (job-less j i w x, job-less i j x w)
+      (three
+      (ltZ (key t after-release j) (key t after-release i)) (ltZ (key t after-release i) (key t after-release j))
+      (ltZ (age t after-release i) (age t after-release j)) (ltZ (age t after-release j) (age t after-release i)) (ltb j i))
+
+  job-range : (i : ℕ) → Waits t after-release i → (0 < jobAt t after-release i) × (jobAt t after-release i < 65535)
+  unfolding jobAt
+  job-range i w =
+      place-range (t .policy) (getD (t .deadline) i 0) (getD (t .gap) i 0) (getD (after-release .p) i 0) (getD (after-release .c) i 0) (in-time i (w .small) (w .has))
+
+  -- these places stand in the order of the jobs
+  numbers-placed : {places : List ℕ} → ((i : ℕ) → i < 8 → getD places i 0 ≡ placeAt t after-release i) → Placed t after-release places
+  unfolding placeAt
+  numbers-placed at =
+      record {
+        none = λ i h r. at i h ∙ rw r;
+        kept = λ i h r e. at i h ∙ rw (r, e);
+        some = λ i w. rw (at i (w .small) ∙ place-free i w) (job-range i w);
+        order = λ j i w x. rw (at j (w .small) ∙ place-free j w, at i (x .small) ∙ place-free i x) (job-before j i w x);
+      }
 
 -- ---- what a mask selects
 
@@ -134,33 +217,32 @@ word-new t i h =
     (idle-work (released t start 255) i h ∙ work-on t start 255 i h (full i h))
     (idle-gap (released t start 255) i h ∙ ap (λ p. p - 1) (gap-on t start 255 i h (full i h)))
 
-module _ (t : Table) (v : List ℕ) (mask : ℕ) (bytes : TableBytes t) (words : WordList v) where
+-- the place of task i in a state's words
+state-place :
+    (t : Table) (s : State) (i : ℕ) → i < 8 → getD (s .c) i 0 < 256
+    → getD (placesIn (eight (λ i. gapMask (t .policy))) (eight (λ i. workMask (t .policy))) (eight (keptAt t)) (eight (baseAt t)) (wordsOf s)) i 0 ≡ placeAt t s i
+state-place t s i h small =
+    places-word t (wordsOf s) i h
+    ∙ place-word t s i (getD (wordsOf s) i 0)
+    (rw (words-at s i h) (omega arith))
+    (rw (words-at s i h) (omega arith))
+
+module _ (t : Table) (v : List ℕ) (mask : ℕ) (valid : tableFault t ≡ 0) (proper : improper t (stateOf v) ≡ false) (words : WordList v) where
   -- the state after the release
   abbrev u : State
   u = released t (stateOf v) mask
 
   work-old : (i : ℕ) → i < 8 → bit mask i ≡ false → getD (u .c) i 0 ≡ getD v i 0 % 256
-  unfolding stateOf
-  work-old i h e = work-off t (stateOf v) mask i h e ∙ eight-at 0 (λ i. getD v i 0 % 256) i h
+  work-old i h e = work-off t (stateOf v) mask i h e ∙ work-word v i h
 
   gap-old : (i : ℕ) → i < 8 → bit mask i ≡ false → getD (u .p) i 0 ≡ getD v i 0 / 256
-  unfolding stateOf
-  gap-old i h e = gap-off t (stateOf v) mask i h e ∙ eight-at 0 (λ i. getD v i 0 / 256) i h
+  gap-old i h e = gap-off t (stateOf v) mask i h e ∙ gap-word v i h
 
-  work-byte : (i : ℕ) → i < 8 → Fits w8 (getD (u .c) i 0)
-  work-byte i h =
+  work-small : (i : ℕ) → i < 8 → getD (u .c) i 0 < 256
+  work-small i h =
       by-bool (bit mask i)
-      (λ e. rw (work-on t (stateOf v) mask i h e) (bytes .work i h))
-      (λ e. rw (work-old i h e) (record { fits = omega arith }))
-
-  gap-byte : (i : ℕ) → i < 8 → Fits w8 (getD (u .p) i 0)
-  gap-byte i h =
-      by-bool (bit mask i)
-      (λ e. rw (gap-on t (stateOf v) mask i h e) (bytes .gap i h))
-      (λ e. rw (gap-old i h e) (record { fits = omega (arith, words .word i h) }))
-
-  place-bytes : (i : ℕ) → i < 8 → Bytes t u i
-  place-bytes i h = record { deadline = bytes .deadline i h; gap = bytes .gap i h; c = work-byte i h; p = gap-byte i h }
+      (λ e. omega (arith, work-on t (stateOf v) mask i h e, ordered t valid i h))
+      (λ e. omega (arith, work-old i h e))
 
   -- the place and the word selected for a task
   abbrev places : ℕ → ℕ
@@ -170,26 +252,20 @@ module _ (t : Table) (v : List ℕ) (mask : ℕ) (bytes : TableBytes t) (words :
   lasting = selected (tickerOf t .bits) mask (preparedBy (tickerOf t) v .word) (tickerOf t .newword)
 
   -- the place is that of the state after the release
-  place-at : (i : ℕ) → i < 8 → places i ≡ place t u i
+  place-at : (i : ℕ) → i < 8 → places i ≡ placeAt t u i
   unfolding tickerOf preparedBy
   place-at i h =
       by-bool (bit mask i)
       (λ e.
       selected-new mask (preparedBy (tickerOf t) v .place) (tickerOf t .newplace) i h e
-      ∙ eight-at 0 (place t (released t start 255)) i h
+      ∙ state-place t (released t start 255) i h (omega (arith, work-on t start 255 i h (full i h), ordered t valid i h))
       ∙ place-same t (released t start 255) u i
       (work-on t start 255 i h (full i h) ∙ sym (work-on t (stateOf v) mask i h e))
       (gap-on t start 255 i h (full i h) ∙ sym (gap-on t (stateOf v) mask i h e)))
       (λ e.
       selected-old mask (preparedBy (tickerOf t) v .place) (tickerOf t .newplace) i h e
-      ∙ eight-at 0 (λ i. oldPlace (getD (tickerOf t .bygap) i 0) (getD (tickerOf t .bywork) i 0) (getD (tickerOf t .kept) i 0) (getD (tickerOf t .base) i 0) (getD v i 0)) i h
-      ∙ ap₂ (λ x y. oldPlace x y (getD (tickerOf t .kept) i 0) (getD (tickerOf t .base) i 0) (getD v i 0))
-      (eight-at 0 (λ i. pick (ltb (t .policy) 2) 0 255) i h)
-      (eight-at 0 (λ i. pick (ltb (t .policy) 4) 0 255) i h)
-      ∙ ap₂ (λ x y. oldPlace (pick (ltb (t .policy) 2) 0 255) (pick (ltb (t .policy) 4) 0 255) x y (getD v i 0))
-      (eight-at 0 (λ i. pick (notPreempted t) (getD (t .work) i 0) 0) i h)
-      (eight-at 0 (baseAt t) i h)
-      ∙ place-old t u i (getD v i 0) h bytes (words .word i h) (work-old i h e) (gap-old i h e))
+      ∙ places-word t v i h
+      ∙ place-word t u i (getD v i 0) (work-old i h e) (gap-old i h e))
 
   -- the word is that of its two numbers, but for the run
   word-at : (i : ℕ) → i < 8 → lasting i ≡ getD (u .c) i 0 + 256 * (getD (u .p) i 0 - 1)
@@ -205,13 +281,13 @@ module _ (t : Table) (v : List ℕ) (mask : ℕ) (bytes : TableBytes t) (words :
       ∙ eight-at 0 (λ i. oldWord (getD v i 0)) i h
       ∙ rw (work-old i h e, gap-old i h e))
 
-  -- LAW: the walk goes through the places of the state after the release
-  pub places-at : eight places ≡ eight (place t u)
-  places-at = eight-same places (place t u) place-at
+  -- LAW: the walk goes through places in the order of the jobs of the state after the release
+  pub places-at : Placed t u (eight places)
+  places-at = numbers-placed t (stateOf v) mask valid proper (λ i h. eight-at 0 places i h ∙ place-at i h)
 
   -- the tasks taken are those that run
   taken-at : (i : ℕ) → i < 8 → taken (eight places) (t .m) i ≡ runs t u i
-  taken-at i h = ap (λ l. taken l (t .m) i) places-at ∙ taken-runs t u place-bytes i h
+  taken-at = taken-runs t u (eight places) places-at
 
   ticked-at :
       (i : ℕ) → i < 8
@@ -231,14 +307,15 @@ module _ (t : Table) (v : List ℕ) (mask : ℕ) (bytes : TableBytes t) (words :
       state-same
       (eight-same (λ i. getD (tickedBy (tickerOf t) (preparedBy (tickerOf t) v) mask) i 0 % 256) (ranAt (u .c) (chosen t u)) (λ i h.
       ap (λ w. w % 256) (ticked-at i h)
-      ∙ word-low (runs t u i) (getD (u .c) i 0) (getD (u .p) i 0 - 1) (omega (arith, work-byte i h)) (runs-work t u i)
+      ∙ word-low (runs t u i) (getD (u .c) i 0) (getD (u .p) i 0 - 1) (work-small i h) (runs-work t u i)
       ∙ ap (λ r. pick r (getD (u .c) i 0 - 1) (getD (u .c) i 0)) (sym (eight-at false (runs t u) i h))))
       (eight-same (λ i. getD (tickedBy (tickerOf t) (preparedBy (tickerOf t) v) mask) i 0 / 256) (fallen (u .p)) (λ i h.
       ap (λ w. w / 256) (ticked-at i h)
-      ∙ word-high (runs t u i) (getD (u .c) i 0) (getD (u .p) i 0 - 1) (omega (arith, work-byte i h)) (runs-work t u i)))
+      ∙ word-high (runs t u i) (getD (u .c) i 0) (getD (u .p) i 0 - 1) (work-small i h) (runs-work t u i)))
 
--- LAW: a tick of any state by its words
+-- LAW: a tick of a proper state by its words
 pub ticker-state :
-    (t : Table) (s : State) (mask : ℕ) → TableBytes t → StateBytes s
+    (t : Table) (s : State) (mask : ℕ) → tableFault t ≡ 0 → improper t s ≡ false → StateBytes s
     → stateOf (tickedBy (tickerOf t) (preparedBy (tickerOf t) (wordsOf s)) mask) ≡ after t s mask
-ticker-state t s mask b k = ticker-after t (wordsOf s) mask b (words-fit s k) ∙ ap (λ x. after t x mask) (words-state s k)
+ticker-state t s mask valid proper k =
+    ticker-after t (wordsOf s) mask valid (rw (words-state s k) proper) (words-fit s k) ∙ ap (λ x. after t x mask) (words-state s k)

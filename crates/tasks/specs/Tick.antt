@@ -1,13 +1,12 @@
 -- One tick (document 01, "One tick"), step by step, and its refusals ("Refusals by cause").
 use Prim.Native.Nat.{ℕ, _-_, _/_, _%_, _^_}
 use mathlib.Core.List.{List}
-use mathlib.Core.Bool.{Bool, false, not, _&&_, _||_}
+use mathlib.Core.Bool.{Bool, false, _&&_, _||_}
 use lib.ListN.{getD}
 use lib.Dec.{eqb, ltb, leb}
 use lib.IntN.{ℤ}
-use lib.Signed.{ltZ}
 use Rattle.lists.specs.Lists.{eight, pick, count, any}
-use Rattle.jobs.specs.Job.{jobKey}
+use Rattle.jobs.specs.Job.{jobKey, jobAge, lex}
 use Rattle.tasks.specs.Table.{tableFault}
 use Rattle.tasks.specs.State.{ready, keeps, late, improper}
 use Rattle.tasks.specs.declared.state.State.{State}
@@ -43,17 +42,18 @@ released t s mask =
 
 -- ---- step 2, the order
 
--- the smaller of two keys goes first, and `rest` settles equal keys
-abbrev pub lex : ℤ → ℤ → Bool → Bool
-lex a b rest = ltZ a b || (not (ltZ b a) && rest)
-
 -- by what the policy orders the jobs, for task i: nothing, the time left or the slack
 unfoldable pub key : Table → State → ℕ → ℤ
 key t s i = jobKey (t .policy) (getD (t .deadline) i 0) (getD (t .gap) i 0) (getD (s .p) i 0) (getD (s .c) i 0)
 
--- the job of task j goes before that of task i: by key, then by task number; a further tie-break is one more `lex` here
+-- what settles equal keys (document 02, §4), for task i: nothing, or the age
+unfoldable pub age : Table → State → ℕ → ℤ
+age t s i = jobAge (t .policy) (getD (t .gap) i 0) (getD (s .p) i 0)
+
+-- the job of task j goes before that of task i: the smaller key first, then the greater age, then the smaller task number; a further tie-break is one
+-- more `lex` here
 unfoldable pub before : Table → State → ℕ → ℕ → Bool
-before t s j i = lex (key t s j) (key t s i) (ltb j i)
+before t s j i = lex (key t s j) (key t s i) (lex (age t s i) (age t s j) (ltb j i))
 
 -- ---- step 3, the choice
 

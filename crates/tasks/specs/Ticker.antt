@@ -1,5 +1,5 @@
 -- Many ticks with one table, on states in words. No part of the paper's model: the contracts of src/ticker.rt cite it, and
--- proofs/Ticking.antt and proofs/Free.antt show that it gives the state after a tick of Tick.antt and the mask of Masks.antt.
+-- proofs/Ticking.antt and proofs/Free.antt show that from a proper state it gives the state after a tick of Tick.antt, and from any the mask of Masks.antt.
 use Prim.Native.Nat.{ℕ, _+_, _-_, _*_, _/_, _%_, _^_}
 use mathlib.Core.List.{List}
 use mathlib.Core.Bool.{Bool, false}
@@ -7,37 +7,16 @@ use lib.Bits.{bitAnd}
 use lib.ListN.{getD}
 use lib.Dec.{eqb, ltb}
 use Rattle.lists.specs.Lists.{eight, pick, byteOf}
-use Rattle.jobs.specs.Job.{jobKey}
-use Rattle.jobs.specs.Place.{raised}
+use Rattle.jobs.specs.Place.{baseOf, gapMask, workMask, moved}
 use Rattle.tasks.specs.State.{start, notPreempted}
 use Rattle.tasks.specs.Tick.{released, ran}
 use Rattle.cores.specs.Walk.{taken}
-use Rattle.tasks.specs.Places.{place}
 use Rattle.tasks.specs.Words.{wordsOf}
 use Rattle.tasks.specs.declared.table.Table.{Table}
 use Rattle.tasks.specs.declared.ticker.Prepared.{Prepared}
 use Rattle.tasks.specs.declared.ticker.Ticker.{Ticker}
 
--- a job's place but for what its two numbers add to it: that of p = 0 and c = 0
-unfoldable pub baseAt : Table → ℕ → ℕ
-baseAt t i = raised (jobKey (t .policy) (getD (t .deadline) i 0) (getD (t .gap) i 0) 0 0) * 8 + i
-
--- a table made ready; what a release leaves of a task is read off a state in which every task has just been released
-unfoldable pub tickerOf : Table → Ticker
-tickerOf t =
-    record {
-      bits = eight (λ i. 2 ^ i);
-      kept = eight (λ i. pick (notPreempted t) (getD (t .work) i 0) 0);
-      base = eight (baseAt t);
-      bygap = eight (λ i. pick (ltb (t .policy) 2) 0 255);
-      bywork = eight (λ i. pick (ltb (t .policy) 4) 0 255);
-      newplace = eight (place t (released t start 255));
-      newword = wordsOf (ran (released t start 255) (eight (λ i. false)));
-      limit = eight (λ i. pick (ltb i (t .n)) 256 0);
-      m = t .m;
-    }
-
--- ---- a state made ready
+-- ---- the places, from the words
 
 -- the task with word w has a job with work left
 abbrev pub readyIn : ℕ → Bool
@@ -47,23 +26,51 @@ readyIn w = ltb 0 (w % 256)
 abbrev pub keepsIn : ℕ → ℕ → Bool
 keepsIn kept w = ltb (w % 256) kept
 
--- a base moved by the two numbers in word w: up by p, where the policy goes by it, and down by c, where it goes by that
-abbrev pub moved : ℕ → ℕ → ℕ → ℕ → ℕ
-moved bygap bywork base w = (bitAnd (w / 256) bygap * 8 + base + 65536 - bitAnd (w % 256) bywork * 8) % 65536
+-- the place of a task with word w
+unfoldable pub placeIn : ℕ → ℕ → ℕ → ℕ → ℕ → ℕ
+placeIn bygap bywork kept base w =
+    pick (readyIn w) (pick (keepsIn kept w) 0 (moved bygap bywork base (w / 256) (w % 256))) 65535
 
--- the place of a task with word w that is not released
-unfoldable pub oldPlace : ℕ → ℕ → ℕ → ℕ → ℕ → ℕ
-oldPlace bygap bywork kept base w =
-    pick (readyIn w) (pick (keepsIn kept w) 0 (moved bygap bywork base w)) 65535
+-- the places of eight tasks
+unfoldable pub placesIn : List ℕ → List ℕ → List ℕ → List ℕ → List ℕ → List ℕ
+placesIn bygap bywork kept base v =
+    eight (λ i. placeIn (getD bygap i 0) (getD bywork i 0) (getD kept i 0) (getD base i 0) (getD v i 0))
 
--- its word after the tick, but for its run
+-- ---- a table made ready
+
+-- the work below which task i's job keeps its processor
+unfoldable pub keptAt : Table → ℕ → ℕ
+keptAt t i = pick (notPreempted t) (getD (t .work) i 0) 0
+
+-- its place but for what its two numbers add to it
+unfoldable pub baseAt : Table → ℕ → ℕ
+baseAt t i = baseOf (t .policy) (getD (t .deadline) i 0) (getD (t .gap) i 0)
+
+-- what a release leaves of a task is read off a state in which every task has just been released
+unfoldable pub tickerOf : Table → Ticker
+tickerOf t =
+    record {
+      bits = eight (λ i. 2 ^ i);
+      kept = eight (keptAt t);
+      base = eight (baseAt t);
+      bygap = eight (λ i. gapMask (t .policy));
+      bywork = eight (λ i. workMask (t .policy));
+      newplace = placesIn (eight (λ i. gapMask (t .policy))) (eight (λ i. workMask (t .policy))) (eight (keptAt t)) (eight (baseAt t)) (wordsOf (released t start 255));
+      newword = wordsOf (ran (released t start 255) (eight (λ i. false)));
+      limit = eight (λ i. pick (ltb i (t .n)) 256 0);
+      m = t .m;
+    }
+
+-- ---- a state made ready
+
+-- the word after the tick of a task that is not released, but for its run
 unfoldable pub oldWord : ℕ → ℕ
 oldWord w = w % 256 + 256 * (w / 256 - 1)
 
 unfoldable pub preparedBy : Ticker → List ℕ → Prepared
 preparedBy k v =
     record {
-      place = eight (λ i. oldPlace (getD (k .bygap) i 0) (getD (k .bywork) i 0) (getD (k .kept) i 0) (getD (k .base) i 0) (getD v i 0));
+      place = placesIn (k .bygap) (k .bywork) (k .kept) (k .base) v;
       word = eight (λ i. oldWord (getD v i 0));
     }
 

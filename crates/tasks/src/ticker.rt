@@ -4,8 +4,7 @@ ghost use Prim.Native.Nat.{_+_, _-_, _*_, _<_, _≤_};
 ghost use lib.ListN.{getD};
 ghost use lib.Dec.{ltb};
 ghost use Rattle.lists.specs.Lists.{eight, pick};
-ghost use Rattle.tasks.specs.State.{notPreempted};
-ghost use Rattle.tasks.specs.Ticker.{baseAt, tickerOf, readyIn, keepsIn, oldPlace, oldWord, preparedBy, selected, lowered, tickedBy, freeBy};
+ghost use Rattle.tasks.specs.Ticker.{readyIn, keepsIn, placeIn, placesIn, keptAt, baseAt, tickerOf, oldWord, preparedBy, selected, lowered, tickedBy, freeBy};
 use crate::state::State;
 use crate::table::Table;
 use crate::widths::either16;
@@ -53,11 +52,11 @@ fn keeps_in(kept: u16, w: u16) -> bool
     w % 256 < kept
 }
 
-fn old_place(bygap: u16, bywork: u16, kept: u16, base: u16, w: u16) -> u16
-    ensures { λ r. ⌜ r ≡ oldPlace bygap bywork kept base w ⌝ }
+// The place of the task of the word.
+fn place_in(bygap: u16, bywork: u16, kept: u16, base: u16, w: u16) -> u16
+    ensures { λ r. ⌜ r ≡ placeIn bygap bywork kept base w ⌝ }
 {
-    let down = std::num::wrapping_sub_u16(base, (w % 256 & bywork) * 8);
-    let place = std::num::wrapping_add_u16((w / 256 & bygap) * 8, down);
+    let place = jobs::moved(bygap, bywork, base, w);
     either16(ready_in(w), either16(keeps_in(kept, w), 0, place), 65535)
 }
 
@@ -94,13 +93,14 @@ fn lowered(places: [u16; 8], words: [u16; 8], m: u16) -> [u16; 8]
 }
 
 impl Ticker {
-    fn old_places(self, v: [u16; 8]) -> [u16; 8]
-        ensures { λ r. ⌜ r ≡ eight (λ i. oldPlace (getD (self .bygap) i 0) (getD (self .bywork) i 0) (getD (self .kept) i 0) (getD (self .base) i 0) (getD v i 0)) ⌝ }
+    // The places of the tasks of eight words.
+    fn places(self, v: [u16; 8]) -> [u16; 8]
+        ensures { λ r. ⌜ r ≡ placesIn (self .bygap) (self .bywork) (self .kept) (self .base) v ⌝ }
     {
         let mut out = [0u16; 8];
         let mut i: usize = 0;
         while i < 8 {
-            out[i] = old_place(
+            out[i] = place_in(
                 self.bygap[i],
                 self.bywork[i],
                 self.kept[i],
@@ -116,7 +116,7 @@ impl Ticker {
     pub fn prepare(self, v: [u16; 8]) -> Prepared
         ensures { λ r. ⌜ r ≡ preparedBy self v ⌝ }
     {
-        let place = self.old_places(v);
+        let place = self.places(v);
         let word = old_words(v);
         Prepared { place, word }
     }
@@ -169,7 +169,7 @@ impl Ticker {
 }
 
 fn kept(t: Table) -> [u16; 8]
-    ensures { λ r. ⌜ r ≡ eight (λ i. pick (notPreempted t) (getD (t .work) i 0) 0) ⌝ }
+    ensures { λ r. ⌜ r ≡ eight (keptAt t) ⌝ }
 {
     let policy = t.policy;
     let stays = (policy == 0) | (policy == 2);
@@ -189,8 +189,7 @@ fn bases(t: Table) -> [u16; 8]
     let mut out = [0u16; 8];
     let mut i: usize = 0;
     while i < 8 {
-        let key = jobs::job_key(policy, t.deadline[i], t.gap[i], 0, 0);
-        out[i] = jobs::raised(key) * 8 + (i as u16);
+        out[i] = jobs::base_of(policy, t.deadline[i], t.gap[i]);
         i += 1;
     }
     out
@@ -216,16 +215,20 @@ impl Table {
     {
         let fresh = State::start().release(self, 255);
         let idle = fresh.run([false; 8]);
-        Ticker {
+        let mut ticker = Ticker {
             bits: [1, 2, 4, 8, 16, 32, 64, 128],
             kept: kept(self),
             base: bases(self),
-            bygap: [either16(self.policy < 2, 0, 255); 8],
-            bywork: [either16(self.policy < 4, 0, 255); 8],
-            newplace: fresh.places(self),
+            bygap: [jobs::gap_mask(self.policy); 8],
+            bywork: [jobs::work_mask(self.policy); 8],
+            newplace: [65535; 8],
             newword: idle.words(),
             limit: limits(self),
             m: wide16(self.m),
-        }
+        };
+        let ready = ticker.prepare(fresh.words());
+        let newplace = ready.place;
+        ticker.newplace = newplace;
+        ticker
     }
 }

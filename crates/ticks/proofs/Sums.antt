@@ -10,10 +10,9 @@ use lib.ListN.{length, getD}
 use mir.Val.{boolByte}
 use borrow.Author.Tests.{ltb-true, ltb-false, le-ltb}
 use Rattle.lists.specs.Lists.{pick}
-use Rattle.tasks.specs.Tick.{after}
 use Rattle.tasks.specs.declared.table.Table.{Table}
 use Rattle.lists.proofs.Bools.{by-bool}
-use Rattle.ticks.specs.Ticks.{tableOf, stateIn, figure, sum, pairs, ticksSum}
+use Rattle.ticks.specs.Ticks.{tableOf, stateIn, figure, tickOf, sum, pairs, ticksSum}
 
 pub bool-number : (b : Bool) → boolByte b ≡ pick b 1 0
 bool-number true = refl
@@ -33,7 +32,7 @@ module _ (states masks : List ℕ) where
     sum-start = refl
 
     pub sum-turn :
-        {x f : ℕ} (k : ℕ) → x ≡ sum t states masks k → f ≡ figure t (after t (stateIn states k) (getD masks k 0))
+        {x f : ℕ} (k : ℕ) → x ≡ sum t states masks k → f ≡ figure t (tickOf t (stateIn states k) (getD masks k 0))
         → (x + f) % 2 ^ 64 ≡ sum t states masks (k + 1)
     unfolding sum
     sum-turn k e h = rw (add-one, e, h)

@@ -1,10 +1,13 @@
--- What a call of `ticks` adds up: the figures of many ticks, each from its own state with its own mask.
+-- What a call of `ticks` adds up: the figures of many ticks, each from its own state with its own mask, by a table made ready. From a proper state of a valid table such a
+-- tick is the model's (proofs/Model.antt); the benchmark has no others.
 use Prim.Native.Nat.{ℕ, zero, suc, _+_, _*_, _/_, _%_, _^_}
 use mathlib.Core.List.{List}
 use lib.ListN.{length, getD}
 use lib.Dec.{ltb}
 use Rattle.lists.specs.Lists.{eight, pick}
-use Rattle.tasks.specs.Tick.{after, missed}
+use Rattle.tasks.specs.Tick.{missed}
+use Rattle.tasks.specs.Words.{wordsOf, stateOf}
+use Rattle.tasks.specs.Ticker.{tickerOf, preparedBy, tickedBy}
 use Rattle.tasks.specs.declared.table.Table.{Table}
 use Rattle.tasks.specs.declared.state.State.{State}
 
@@ -38,10 +41,14 @@ word a =
 unfoldable pub figure : Table → State → ℕ
 figure t s = ((word (s .c) + word (s .p)) % 2 ^ 64 + pick (missed t s) 1 0) % 2 ^ 64
 
+-- the state after a tick
+unfoldable pub tickOf : Table → State → ℕ → State
+tickOf t s mask = stateOf (tickedBy (tickerOf t) (preparedBy (tickerOf t) (wordsOf s)) mask)
+
 -- the figures of the first k ticks
 unfoldable pub sum : Table → List ℕ → List ℕ → ℕ → ℕ
 sum t states masks zero = 0
-sum t states masks (suc k) = (sum t states masks k + figure t (after t (stateIn states k) (getD masks k 0))) % 2 ^ 64
+sum t states masks (suc k) = (sum t states masks k + figure t (tickOf t (stateIn states k) (getD masks k 0))) % 2 ^ 64
 
 -- how many ticks there are: as many as masks and whole states
 unfoldable pub pairs : List ℕ → List ℕ → ℕ

@@ -1,10 +1,8 @@
 use Prim.Native.Nat.{_-_, _≤_}
-use mathlib.Core.Path.{_≡_, sym, ap}
+use mathlib.Core.Path.{_≡_}
 use borrow.Author.Tests.{lt-ltb}
-use Rattle.ticks.specs.Ticks.{figure, sum, pairs, ticksSum}
+use Rattle.ticks.specs.Ticks.{tickOf, sum, pairs, ticksSum}
 use Rattle.ticks.proofs.Sums.{pairs-room, sum-start, sum-turn, sum-end}
-use Rattle.tasks.proofs.InWords.{TableBytes, StateBytes}
-use Rattle.tasks.proofs.Ticking.{ticker-state}
 use native.Mathlib.Omega.{arith}
 use borrow.Author.Needs.{needs}
 use Rattle.ticks.proofs.ticks.Statement.{statement}
@@ -57,27 +55,15 @@ add-k c = search needs
 loop-less : tie.Need-loop-less Inv-loop μ-loop
 loop-less c = search needs
 
--- the numbers of the table and of the state are bytes
-table-bytes : (c : tie.After-table-of Inv-loop μ-loop) → TableBytes (c .table-of .result)
-table-bytes c = record { work = λ i h. search needs; deadline = λ i h. search needs; gap = λ i h. search needs }
-
-state-bytes : (c : tie.After-state-at Inv-loop μ-loop) → StateBytes (c .state-at .result)
-state-bytes c =
-    record {
-      c-length = search needs;
-      p-length = search needs;
-      c = λ i h. search needs;
-      p = λ i h. search needs;
-    }
-
 loop-again : tie.Need-loop-again Inv-loop μ-loop
+unfolding tickOf
 loop-again c =
     let tick = c .before .before in
     let at = tick .before .before in
     let h = at .before .before in
     let ready = h .before .before in
     let f = c .before .figure .ensures in
-    (omega arith, h .loop .inv .1, rw (c .wrapping-add-u64 .ensures) (sum-turn _ _ _ _ (h .loop .inv .2) (rw (f, tick .ticked .ensures, ready .ticker .ensures, sym (at .state-at .ensures)) (ap (figure _) (ticker-state _ _ _ (table-bytes (ready .before)) (state-bytes at))))))
+    (omega arith, h .loop .inv .1, rw (c .wrapping-add-u64 .ensures) (sum-turn _ _ _ _ (h .loop .inv .2) (rw (f, tick .ticked .ensures, ready .ticker .ensures, at .state-at .ensures))))
 
 returns-2 : tie.Need-returns-2 Inv-loop μ-loop
 returns-2 c =

@@ -5,10 +5,11 @@ use mathlib.Core.Bool.{Bool, true, false, _&&_}
 use borrow.Author.Tests.{not-true}
 use lib.Dec.{leb, ltb}
 use lib.ListN.{length, getD}
+use Rattle.tasks.specs.State.{improper}
 use Rattle.tasks.specs.Tick.{after}
 use Rattle.tasks.specs.Masks.{freeMask}
 use Rattle.tasks.specs.Words.{stateOf}
-use Rattle.tasks.proofs.InWords.{TableBytes, WordList}
+use Rattle.tasks.proofs.InWords.{WordList}
 use Rattle.tasks.proofs.Free.{ticks, frees}
 use Rattle.states.specs.Keys.{wordsOf}
 use Rattle.states.proofs.MaskLaws.{walked-falls}
@@ -32,10 +33,7 @@ abbrev μ-loop : tie.MeasureT-loop
 abbrev start : tie.At-loop Inv-loop μ-loop → tie.Start Inv-loop μ-loop
 start l = l .before .before .before .before .before .before .before .before .before .before .before .before .before
 
--- the numbers of the table are bytes, and the words are words
-table-bytes : (c : tie.Start Inv-loop μ-loop) → TableBytes (c .args .t)
-table-bytes c = record { work = λ i h. search needs; deadline = λ i h. search needs; gap = λ i h. search needs }
-
+-- the words are words
 word-list : (w : tie.After-words-of Inv-loop μ-loop) → WordList (w .words-of .result)
 word-list w = record { word = λ i h. search needs }
 
@@ -60,7 +58,7 @@ row l =
     record {
       keeps = due-is g false (l .before .before .before .before .before .before .between .ensures) (l .before .before .before .before .before .before .before .landing .ensures);
       releases = due-is g true (l .before .before .before .before .between2 .ensures) (l .before .before .before .before .before .landing2 .ensures);
-      ticks = λ q. ticks (s .args .t) _ (s .pre .1) (l .before .prepare .ensures) (table-bytes s) (word-list w) q ∙ ap (λ u. after (s .args .t) u q) here;
+      ticks = λ q. ticks (s .args .t) _ (s .pre .1) (l .before .prepare .ensures) (s .pre .0 .valid) (ap (improper (s .args .t)) here ∙ s .pre .5) (word-list w) q ∙ ap (λ u. after (s .args .t) u q) here;
       frees = frees (s .args .t) _ (s .pre .1) (l .before .before .free .ensures) ∙ ap (freeMask (s .args .t)) here;
     }
 
@@ -118,7 +116,7 @@ put-after-requires : tie.Need-put-after-requires Inv-loop μ-loop
 put-after-requires c κs =
     let l = c .before .before .before in
     let p = start l .pre in
-    (omega (arith, p .5, l .loop .inv .0, l .loop .inv .1, c .before .before .loop-test .taken), p .2)
+    (omega (arith, p .6, l .loop .inv .0, l .loop .inv .1, c .before .before .loop-test .taken), p .2)
 
 follow-requires : tie.Need-follow-requires Inv-loop μ-loop
 follow-requires c κs = search needs

@@ -5,7 +5,7 @@ use borrow.Author.Tests.{not-true, not-false}
 use Rattle.tasks.specs.Tight.{tight}
 use Rattle.tasks.specs.Words.{stateOf}
 use Rattle.lists.proofs.Bools.{clash}
-use Rattle.tasks.proofs.InWords.{TableBytes, WordList}
+use Rattle.tasks.proofs.InWords.{WordList}
 use Rattle.states.specs.Miss.{fullBy}
 use Rattle.states.proofs.MissLaws.{full-by, calm-by}
 use Rattle.closed.proofs.RowLaws.{full-sound}
@@ -14,10 +14,7 @@ use borrow.Author.Needs.{needs}
 use Rattle.closed.proofs.sound.is_sound.Statement.{statement}
 use Rattle.closed.proofs.sound.is_sound.Tie as tie
 
--- the numbers of the table are bytes, and the words are words
-table-bytes : (c : tie.Start) → TableBytes (c .args .t)
-table-bytes c = record { work = λ i h. search needs; deadline = λ i h. search needs; gap = λ i h. search needs }
-
+-- the words are words
 word-list : (c : tie.Start) → WordList (c .args .v)
 word-list c = record { word = λ i h. search needs }
 
@@ -43,7 +40,7 @@ returns-2 c =
     let v = s .args .v in
     let loose = sym (c .before .tight .ensures) ∙ not-true _ (c .if2 .taken) in
     let proper = proper-by t (stateOf v) (s .pre .0) (sym (c .before .before .before .exceeds .ensures) ∙ c .before .before .if1 .left) (loose-kept t (stateOf v) loose) in
-    record { proper = proper; calm = calm-by t (s .pre .0) (stateOf v) proper refl (s .pre .1) (table-bytes s) (word-list s) (ap (λ b. b && fullBy t (s .args .ticker) v) loose) }
+    record { proper = proper; calm = calm-by t (s .pre .0) (stateOf v) proper refl (s .pre .1) (word-list s) (ap (λ b. b && fullBy t (s .args .ticker) v) loose) }
 
 misses-requires : tie.Need-misses-requires
 misses-requires c κs = search needs
@@ -65,8 +62,8 @@ returns-4 c =
     let proper = proper-by t (stateOf v) (s .pre .0) within (sym (c .before .before .misses .ensures) ∙ c .before .if3 .left) in
     let full = c .full-misses .ensures in
     full-sound t (stateOf v) (not (c .full-misses .result)) (s .pre .0) proper
-    (λ e. calm-by t (s .pre .0) (stateOf v) proper refl (s .pre .1) (table-bytes s) (word-list s) (rw (sym full ∙ not-true _ e) (and-no (tight t (stateOf v)))))
-    (λ e. sym (full-by t (s .pre .0) (stateOf v) proper refl (s .pre .1) (table-bytes s) (word-list s)) ∙ sym full ∙ not-false _ e)
+    (λ e. calm-by t (s .pre .0) (stateOf v) proper refl (s .pre .1) (word-list s) (rw (sym full ∙ not-true _ e) (and-no (tight t (stateOf v)))))
+    (λ e. sym (full-by t (s .pre .0) (stateOf v) proper refl (s .pre .1) (word-list s)) ∙ sym full ∙ not-false _ e)
 
 pub is-sound-spec : {M : Type 1} → statement M
 is-sound-spec =

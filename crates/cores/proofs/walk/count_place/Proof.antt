@@ -29,22 +29,26 @@ mul-out c = search needs
 array-read-out : tie.Need-array-read-out Inv-loop μ-loop
 array-read-out c = search needs
 
-mul-out-2 : tie.Need-mul-out-2 Inv-loop μ-loop
-mul-out-2 c = search needs
+mul-sooner : tie.Need-mul-sooner Inv-loop μ-loop
+mul-sooner c = search needs
 
-array-read-out-2 : tie.Need-array-read-out-2 Inv-loop μ-loop
-array-read-out-2 c = search needs
+array-read-sooner : tie.Need-array-read-sooner Inv-loop μ-loop
+array-read-sooner c = search needs
+
+sooner-requires : tie.Need-sooner-requires Inv-loop μ-loop
+sooner-requires c κs = search needs
 
 cast-out : tie.Need-cast-out Inv-loop μ-loop
 cast-out c = search needs
 
 add-out : tie.Need-add-out Inv-loop μ-loop
 add-out c =
-    let a = c .before .before .args in
-    rank-room (a .t2) (a .i) (c .before .loop .j) (c .before .before .pre .1) (omega arith) (omega arith)
+    let h = c .before .before in
+    let a = h .before .args in
+    rank-room (a .t2) (a .i) (h .loop .j) (h .before .pre .1) (omega arith) (c .sooner .result) (omega arith)
 
-mul-out-3 : tie.Need-mul-out-3 Inv-loop μ-loop
-mul-out-3 c = search needs
+mul-out-2 : tie.Need-mul-out-2 Inv-loop μ-loop
+mul-out-2 c = search needs
 
 array-write-out : tie.Need-array-write-out Inv-loop μ-loop
 array-write-out c = search needs
@@ -57,8 +61,9 @@ loop-less c = search needs
 
 loop-again : tie.Need-loop-again Inv-loop μ-loop
 loop-again c =
-    let a = c .before .before .args in
-    (omega arith, filled-store (c .before .loop .inv .1) (omega arith) (rank-turn (a .t2) (a .i) (c .before .loop .j) (c .before .before .pre .1) (omega arith)))
+    let h = c .before .before in
+    let a = h .before .args in
+    (omega arith, filled-store (h .loop .inv .1) (omega arith) (rank-turn (a .t2) (a .i) (h .loop .j) (h .before .pre .1) (omega arith) (c .sooner .ensures)))
 
 returns : tie.Need-returns Inv-loop μ-loop
 returns c = filled-end (c .before .loop .inv .1) (c .loop-test .left)
@@ -74,11 +79,12 @@ count-place-spec =
     loop-holds
     mul-out
     array-read-out
-    mul-out-2
-    array-read-out-2
+    mul-sooner
+    array-read-sooner
+    sooner-requires
     cast-out
     add-out
-    mul-out-3
+    mul-out-2
     array-write-out
     add-j
     loop-less

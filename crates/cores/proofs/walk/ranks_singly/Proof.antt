@@ -16,14 +16,8 @@ abbrev μ-loop : tie.MeasureT-loop
 loop-holds : tie.Need-loop-holds Inv-loop μ-loop
 loop-holds c = (omega arith, filled-start refl)
 
-mul-count-below : tie.Need-mul-count-below Inv-loop μ-loop
-mul-count-below c = search needs
-
-array-read-count-below : tie.Need-array-read-count-below Inv-loop μ-loop
-array-read-count-below c = search needs
-
-count-below-requires : tie.Need-count-below-requires Inv-loop μ-loop
-count-below-requires c κs = search needs
+count-before-requires : tie.Need-count-before-requires Inv-loop μ-loop
+count-before-requires c κs = search needs
 
 mul-out : tie.Need-mul-out Inv-loop μ-loop
 mul-out c = search needs
@@ -38,10 +32,7 @@ loop-less : tie.Need-loop-less Inv-loop μ-loop
 loop-less c = search needs
 
 loop-again : tie.Need-loop-again Inv-loop μ-loop
-unfolding rank
-loop-again c =
-    let h = c .before .before in
-    (omega arith, filled-store (h .loop .inv .1) (omega arith) (c .count-below .ensures .0))
+loop-again c = (omega arith, filled-store (c .before .before .loop .inv .1) (omega arith) (c .count-before .ensures .0))
 
 returns : tie.Need-returns Inv-loop μ-loop
 returns c = filled-end (c .before .loop .inv .1) (c .loop-test .left)
@@ -53,9 +44,7 @@ ranks-singly-spec =
     Inv-loop
     μ-loop
     loop-holds
-    mul-count-below
-    array-read-count-below
-    count-below-requires
+    count-before-requires
     mul-out
     array-write-out
     add-i

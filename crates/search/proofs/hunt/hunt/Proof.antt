@@ -2,11 +2,12 @@
 use mathlib.Core.Path.{_≡_, sym, ap, _∙_}
 use Prim.Native.Nat.{ℕ, _-_, _≤_, _<_}
 use mathlib.Core.Logic.{⊎-elim}
+use Rattle.tasks.specs.State.{improper}
 use Rattle.tasks.specs.Tick.{after, missed}
 use Rattle.tasks.specs.Masks.{freeMask}
 use Rattle.tasks.specs.Ticker.{tickedBy}
 use Rattle.tasks.specs.Words.{stateOf}
-use Rattle.tasks.proofs.InWords.{TableBytes, WordList}
+use Rattle.tasks.proofs.InWords.{WordList}
 use Rattle.tasks.proofs.Free.{ticks, frees}
 use Rattle.levels.specs.Levels.{Calm, Hunting}
 use Rattle.levels.proofs.Explore.{hunt-start}
@@ -34,10 +35,7 @@ Inv-hunt t ticker work lo hi i₀ i = (lo ≤ i) × (i ≤ hi) × Hunting (syste
 abbrev μ-hunt : tie.MeasureT-hunt
 μ-hunt t ticker work lo hi i₀ i = hi - i
 
--- the numbers of the table are bytes, and the words are words
-table-bytes : (c : tie.Start Inv-loop μ-loop Inv-hunt μ-hunt) → TableBytes (c .args .t)
-table-bytes c = record { work = λ i h. search needs; deadline = λ i h. search needs; gap = λ i h. search needs }
-
+-- the words are words
 word-list : (c : tie.After-words-at Inv-loop μ-loop Inv-hunt μ-hunt) → WordList (c .words-at .result)
 word-list c = record { word = λ i h. search needs }
 
@@ -59,10 +57,14 @@ prepare-requires c κs = search needs
 loop-holds : tie.Need-loop-holds Inv-loop μ-loop Inv-hunt μ-hunt
 loop-holds c =
     let w = c .before .before .before .before in
-    let s = c .before .before .before .before .before .before .before .before in (
+    let s = c .before .before .before .before .before .before .before .before in
+    let level = s .pre .2 in
+    let h = c .before .before .before .before .before .before .hunt in
+    let ne = c .before .before .before .before .before .if1 .left in
+    let below : h .i < s .args .hi = omega (arith, h .inv .1) in (
       walked-start _ (omega (arith, c .before .free .ok)),
       frees _ _ (s .pre .0) (c .before .free .ensures) ∙ ap (freeMask _) (w .words-at .ensures),
-      λ mask. ticks _ _ (s .pre .0) (c .prepare .ensures) (table-bytes s) (word-list w) mask ∙ ap (λ u. after (s .args .t) u mask) (w .words-at .ensures),
+      λ mask. ticks _ _ (s .pre .0) (c .prepare .ensures) (level .valid) (ap (improper _) (w .words-at .ensures) ∙ level .proper _ below) (word-list w) mask ∙ ap (λ u. after (s .args .t) u mask) (w .words-at .ensures),
     )
 
 cast-mask : tie.Need-cast-mask Inv-loop μ-loop Inv-hunt μ-hunt
@@ -109,7 +111,7 @@ hunt-again c =
     let calm : Calm (system (a .t)) s =
     ⊎-elim
     (λ w. calm-end (a .t) (level .valid) s proper (rw (← w .3 .inv .1) (w .3 .inv .0)) (w .4 .left))
-    (λ w. calm-by (a .t) (level .valid) s proper (c .before .before .words-at .ensures) (c .before .before .before .before .before .before .pre .0) (table-bytes (c .before .before .before .before .before .before)) (word-list (c .before .before)) (sym (c .before .has-miss .ensures) ∙ w .left))
+    (λ w. calm-by (a .t) (level .valid) s proper (c .before .before .words-at .ensures) (c .before .before .before .before .before .before .pre .0) (word-list (c .before .before)) (sym (c .before .has-miss .ensures) ∙ w .left))
     (c .if2 .came) in
     (omega arith, omega arith, hunt-turn (a .t) (a .work .now) (h .inv .2) calm)
 

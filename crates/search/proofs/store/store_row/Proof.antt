@@ -3,11 +3,12 @@ use mathlib.Core.Path.{_≡_, refl, ap, _∙_}
 use Prim.Native.Nat.{_-_, _≤_}
 use mathlib.Core.Logic.{⊎-elim}
 use lib.ListN.{length}
+use Rattle.tasks.specs.State.{improper}
 use Rattle.tasks.specs.Tick.{after}
 use Rattle.tasks.specs.Masks.{freeMask}
 use Rattle.tasks.specs.Ticker.{tickerOf}
 use Rattle.tasks.specs.declared.table.Table.{Table}
-use Rattle.tasks.proofs.InWords.{TableBytes, WordList}
+use Rattle.tasks.proofs.InWords.{WordList}
 use Rattle.tasks.proofs.Free.{ticks, frees}
 use Rattle.search.specs.Keeping.{RowReady}
 use Rattle.search.proofs.StoreLaws.{RowBy, row-start, row-known, row-added, row-crowded, row-falls, row-end}
@@ -19,15 +20,12 @@ use Rattle.search.proofs.store.store_row.Tie as tie
 abbrev Inv-loop : tie.InvT-loop
 Inv-loop ticker work₀ heads₀ k from i free state n₀ m₀ work heads n m =
     (from ≤ n) × (length heads ≡ length heads₀)
-    × ((t : Table) → ticker ≡ tickerOf t → TableBytes t → RowReady t work₀ heads₀ k from i → RowBy t ticker state work₀ work heads k from n i free m)
+    × ((t : Table) → ticker ≡ tickerOf t → RowReady t work₀ heads₀ k from i → RowBy t ticker state work₀ work heads k from n i free m)
 
 abbrev μ-loop : tie.MeasureT-loop
 μ-loop ticker work₀ heads₀ k from i free state n₀ m₀ work heads n m = 256 - m
 
--- the numbers of the table are bytes, and the words are words
-table-bytes : (c : tie.Start Inv-loop μ-loop) → TableBytes (c .args .t)
-table-bytes c = record { work = λ i h. search needs; deadline = λ i h. search needs; gap = λ i h. search needs }
-
+-- the words are words
 word-list : (c : tie.After-words-at Inv-loop μ-loop) → WordList (c .words-at .result)
 word-list c = record { word = λ i h. search needs }
 
@@ -38,7 +36,7 @@ start l = l .before .before .before .before .before .before .before
 own :
     (l : tie.At-loop Inv-loop μ-loop)
     → RowBy (start l .args .t) (start l .args .ticker) (l .before .prepare .result) (start l .args .work .now) (l .loop .work) (l .loop .heads) (start l .args .k) (start l .args .from) (l .loop .n) (start l .args .i) (l .before .before .free .result) (l .loop .m)
-own l = l .loop .inv .2 (start l .args .t) (start l .pre .0) (table-bytes (start l)) (start l .pre .1)
+own l = l .loop .inv .2 (start l .args .t) (start l .pre .0) (start l .pre .1)
 
 words-at-requires : tie.Need-words-at-requires Inv-loop μ-loop
 words-at-requires c κs =
@@ -60,9 +58,9 @@ loop-holds c =
     let at = c .before .before .words-at .ensures in (
       omega arith,
       refl,
-      λ t e bytes ready. record {
+      λ t e ready. record {
         is = frees t _ e (c .before .free .ensures) ∙ ap (freeMask t) at;
-        ticks = λ mask. ticks t _ e (c .prepare .ensures) bytes (word-list (c .before .before)) mask ∙ ap (λ s. after t s mask) at;
+        ticks = λ mask. ticks t _ e (c .prepare .ensures) (ready .valid) (ap (improper t) at ∙ ready .proper) (word-list (c .before .before)) mask ∙ ap (λ s. after t s mask) at;
         row = row-start ready refl (omega (arith, c .before .free .ok));
       },
     )
@@ -120,16 +118,16 @@ loop-again c =
     (λ w. (
       omega arith,
       call .kept .1 .1 .0 ∙ l .loop .inv .1,
-      λ t e bytes ready.
-          let x = l .loop .inv .2 t e bytes ready in
+      λ t e ready.
+          let x = l .loop .inv .2 t e ready in
           let y = rw (w .1 .given .1) at (rw (x .ticks _) at (call .ensures)) in
           record { is = x .is; ticks = x .ticks; row = rw (c .follow .ensures, w .2) (row-known ready (x .row) (x .is) b y) },
     ))
     (λ w. (
       omega arith,
       call .kept .1 .1 .0 ∙ l .loop .inv .1,
-      λ t e bytes ready.
-          let x = l .loop .inv .2 t e bytes ready in
+      λ t e ready.
+          let x = l .loop .inv .2 t e ready in
           let y = rw (w .1 .given .1) at (rw (x .ticks _) at (call .ensures)) in
           record { is = x .is; ticks = x .ticks; row = rw (c .follow .ensures, w .2) (row-added ready (x .row) (x .is) b y) },
     ))

@@ -3,6 +3,7 @@ use mathlib.Core.Path.{refl, _∙_}
 use lib.ListN.{getD}
 use native.Mathlib.Omega.{arith}
 use Rattle.lists.specs.Lists.{pick}
+use Rattle.tasks.specs.Ticker.{keptAt}
 use Rattle.lists.proofs.Fill.{Filled, filled-start, filled-store, filled-end}
 use borrow.Author.Needs.{needs}
 use Rattle.tasks.proofs.ticker.kept.Statement.{statement}
@@ -42,6 +43,7 @@ loop-again : tie.Need-loop-again Inv-loop μ-loop
 loop-again c = (omega arith, filled-store (c .before .before .before .before .loop .inv .1) (omega arith) (c .either16 .ensures ∙ rw (c .before .wide16 .ensures .0)))
 
 returns : tie.Need-returns Inv-loop μ-loop
+unfolding keptAt
 returns c = filled-end (c .before .loop .inv .1) (c .loop-test .left)
 
 pub kept-spec : {M : Type 1} → statement M

@@ -1,5 +1,5 @@
 -- The invariant: the first i tasks are read off the walk. Assumes nothing.
-use Prim.Native.Nat.{ℕ, _≤_, _-_}
+use Prim.Native.Nat.{_≤_, _-_}
 use mathlib.Core.Path.{refl, _∙_}
 use mathlib.Core.Bool.{false}
 use lib.Dec.{ltb}
@@ -9,7 +9,7 @@ use Rattle.lists.proofs.Fill.{eight-same, Filled, filled-start, filled-store, f
 use Rattle.cores.specs.Walk.{taken}
 use Rattle.cores.proofs.WalkLaws.{served-test}
 use Rattle.tasks.specs.Places.{place}
-use Rattle.tasks.proofs.Place.{Bytes, taken-chosen}
+use Rattle.tasks.proofs.Place.{taken-chosen, places-placed}
 use native.Mathlib.Omega.{arith}
 use borrow.Author.Needs.{needs}
 use Rattle.tasks.proofs.state.State.choose.Statement.{statement}
@@ -51,10 +51,6 @@ loop-less c = search needs
 loop-again : tie.Need-loop-again Inv-loop μ-loop
 loop-again c = (omega arith, filled-store (c .before .loop .inv .1) (omega arith) refl)
 
--- the numbers that a place is made of are bytes
-bytes : (c : tie.Start Inv-loop μ-loop) (i : ℕ) → Bytes (c .args .t) (c .args .self) i
-bytes c i = record { deadline = search needs; gap = search needs; c = search needs; p = search needs }
-
 returns : tie.Need-returns Inv-loop μ-loop
 returns c =
     let walk = c .before .before in
@@ -64,7 +60,7 @@ returns c =
     let is = rw (walk .before .wide16 .ensures .0, walk .before .before .places .ensures) at (walk .assign .ensures) in
     filled-end (c .before .loop .inv .1) (c .loop-test .left)
     ∙ eight-same _ (taken (eight (place t s)) (t .m)) (served-test (eight (place t s)) (t .m) is)
-    ∙ taken-chosen t s (λ i b. bytes first i)
+    ∙ taken-chosen t s (eight (place t s)) (places-placed t s)
 
 pub choose-spec : {M : Type 1} → statement M
 choose-spec =

@@ -1,6 +1,6 @@
-use borrow.Author.Needs.{needs}
 use Rattle.tasks.specs.Tick.{key}
 use Rattle.jobs.proofs.Signed.{back}
+use borrow.Author.Needs.{needs}
 use Rattle.tasks.proofs.state.State.key.Statement.{statement}
 use Rattle.tasks.proofs.state.State.key.Tie as tie
 

@@ -3,9 +3,8 @@ use mathlib.Core.Path.{ap, _∙_}
 use mathlib.Core.Bool.{false}
 use Rattle.lists.specs.Lists.{eight}
 use Rattle.tasks.specs.Tick.{released, ran}
-use Rattle.tasks.specs.Places.{place}
 use Rattle.tasks.specs.Words.{wordsOf}
-use Rattle.tasks.specs.Ticker.{tickerOf}
+use Rattle.tasks.specs.Ticker.{tickerOf, placesIn, preparedBy}
 use borrow.Author.Needs.{needs}
 use Rattle.tasks.proofs.table.Table.ticker.Statement.{statement}
 use Rattle.tasks.proofs.table.Table.ticker.Tie as tie
@@ -25,14 +24,11 @@ kept-requires c κs = search needs
 bases-requires : tie.Need-bases-requires
 bases-requires c κs = search needs
 
-either16-requires : tie.Need-either16-requires
-either16-requires c κs = search needs
+gap-mask-requires : tie.Need-gap-mask-requires
+gap-mask-requires c κs = search needs
 
-either16-requires-2 : tie.Need-either16-requires-2
-either16-requires-2 c κs = search needs
-
-places-requires : tie.Need-places-requires
-places-requires c κs = search needs
+work-mask-requires : tie.Need-work-mask-requires
+work-mask-requires c κs = search needs
 
 words-requires : tie.Need-words-requires
 words-requires c κs = search needs
@@ -43,29 +39,40 @@ limits-requires c κs = search needs
 wide16-requires : tie.Need-wide16-requires
 wide16-requires c κs = search needs
 
+words-requires-2 : tie.Need-words-requires-2
+words-requires-2 c κs = search needs
+
+prepare-requires : tie.Need-prepare-requires
+prepare-requires c κs = search needs
+
 returns : tie.Need-returns
-unfolding tickerOf
+unfolding tickerOf preparedBy
 returns c =
-    let w = c .before .before in
-    let g = w .before .before .before .before in
-    let b = g .before .before in
-    let k = b .before in
+    let made = c .before in
+    let m = made .before .before in
+    let l = m .before in
+    let w = l .before in
+    let b = w .before in
+    let g = b .before in
+    let s = g .before in
+    let k = s .before in
     let r = k .before .before in
     let t = r .before .before .args .self in
     let fresh = r .release .ensures ∙ ap (λ s. released t s 255) (r .before .start .ensures) in
-    let place = w .before .places .ensures ∙ ap (λ s. eight (place t s)) fresh in
     let word = w .words .ensures ∙ ap wordsOf (k .before .run .ensures ∙ ap (λ s. ran s (eight (λ i. false))) fresh) in
+    let words = made .before .words2 .ensures ∙ ap wordsOf fresh in
+    let place = ap (λ p. p .place) (made .prepare .ensures) ∙ (λ j. placesIn (eight (λ i. g .gap-mask .ensures j)) (eight (λ i. b .work-mask .ensures j)) (k .kept .ensures j) (s .bases .ensures j) (words j)) in
     λ j.
     record {
       bits = eight (λ i. 2 ^ i);
       kept = k .kept .ensures j;
-      base = b .bases .ensures j;
-      bygap = eight (λ i. g .either16 .ensures j);
-      bywork = eight (λ i. w .before .before .either162 .ensures j);
+      base = s .bases .ensures j;
+      bygap = eight (λ i. g .gap-mask .ensures j);
+      bywork = eight (λ i. b .work-mask .ensures j);
       newplace = place j;
       newword = word j;
-      limit = c .before .limits .ensures j;
-      m = c .wide16 .ensures .0 j;
+      limit = l .limits .ensures j;
+      m = m .wide16 .ensures .0 j;
     }
 
 pub ticker-spec : {M : Type 1} → statement M
@@ -77,10 +84,11 @@ ticker-spec =
     run-requires
     kept-requires
     bases-requires
-    either16-requires
-    either16-requires-2
-    places-requires
+    gap-mask-requires
+    work-mask-requires
     words-requires
     limits-requires
     wide16-requires
+    words-requires-2
+    prepare-requires
     returns)
