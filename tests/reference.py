@@ -1,5 +1,6 @@
 """An independent implementation of the verdict engine's paper (document 01), in plain Python, and of
-two changes of document 02: its closed lists (§1), and its policy 4, least slack first (§3).
+three changes of document 02: its closed lists (§1), its policy 4, least slack first (§3), and its
+order of jobs that are equal otherwise, by age (§4).
 
 It is written from the papers alone and shares nothing with the library: it is slow, direct, and
 meant to be read beside them. Each function's docstring names the section that it follows.
@@ -200,6 +201,11 @@ def slack(table: Table, state: State, i: int) -> int:
     return time_left(table, state, i) - state.c[i]
 
 
+def age(table: Table, state: State, i: int) -> int:
+    """Document 02, §4: P - p, the ticks since the release. It is spoken of where c > 0."""
+    return table.P[i] - state.p[i]
+
+
 def is_started(table: Table, state: State, i: int) -> bool:
     """Section "State": started means 0 < c < C."""
     return 0 < state.c[i] < table.C[i]
@@ -251,14 +257,15 @@ def release(table: Table, state: State, mask: int) -> State:
     return State(tuple(c), tuple(p))
 
 
-def rank(table: Table, state: State, i: int) -> tuple[int, int]:
+def rank(table: Table, state: State, i: int) -> tuple[int, int, int]:
     """Section "One tick", step 2, what a ready task is ordered by: GFP by task number; EDF by smaller
-    d, then by task number. Document 02, §3: policy 4 by smaller slack, then by task number."""
+    d. Document 02, §3: policy 4 by smaller slack. Document 02, §4: equal d, or equal slack, is
+    settled first by the greater P - p, then by task number."""
     if by_deadline(table):
-        return time_left(table, state, i), i
+        return time_left(table, state, i), -age(table, state, i), i
     if by_slack(table):
-        return slack(table, state, i), i
-    return 0, i
+        return slack(table, state, i), -age(table, state, i), i
+    return 0, 0, i
 
 
 def choose(table: Table, state: State) -> list[int]:
@@ -583,8 +590,8 @@ def chosen(table: Table, masks: bytes) -> list[list[int]]:
 
 def check_least_slack() -> None:
     """Document 02, §3: the refusals; any number of started jobs; a choice that changes from tick to
-    tick, as the slack of waiting jobs falls, with ties by task number; and three tasks on two cores
-    that are Safe under 4 alone."""
+    tick, as the slack of waiting jobs falls, with jobs of one age by task number; and three tasks on
+    two cores that are Safe under 4 alone."""
     one = table_of(P_LST, 1, [(3, 9, 9), (2, 7, 7), (2, 7, 7)])
     assert table_fault(one) == 0 and read_sheet(sheet_bytes(one)) == one
     assert table_fault(one._replace(policy=5)) == 4
@@ -596,6 +603,33 @@ def check_least_slack() -> None:
     tight = table_of(P_LST, 2, [(1, 2, 2), (1, 1, 2), (2, 2, 2)])
     kinds = [verdict(tight._replace(policy=policy), MOST_SLOTS).kind for policy in POLICIES]
     assert verdict(tight, 9) == ("safe", 0, 9) and kinds == ["unsafe"] * 4 + ["safe"]
+
+
+def with_jobs(*jobs: tuple[int, int]) -> State:
+    """A state from c and p of its first tasks."""
+    c, p = zip(*jobs, *[(0, 0)] * (TASKS - len(jobs)))
+    return State(c, p)
+
+
+def check_age() -> None:
+    """Document 02, §4: of equal d, and of equal slack, the greater P - p runs first, whatever the task
+    number; with that equal too the number decides, and under GFP it alone. Under NP a started job keeps
+    its processor from an older one. Then three tasks on two cores, for which task numbers alone had
+    given Safe 22 and Unsafe 3 13."""
+    for policy in POLICIES:
+        by_number = policy in (NP_GFP, P_GFP)
+        for tasks, jobs, runs in (
+            ([(3, 7, 12), (3, 9, 9)], [(3, 12), (3, 7)], 0 if by_number else 1),  # d 7, slack 4; P - p 0, 2
+            ([(3, 9, 9), (3, 7, 12)], [(3, 7), (3, 12)], 0),  # the same; P - p 2, 0
+            ([(3, 9, 9), (3, 9, 12)], [(3, 7), (3, 10)], 0),  # the same; P - p 2, 2
+            ([(2, 6, 9), (4, 9, 12)], [(2, 9), (4, 11)], 1 if policy == P_LST else 0),  # d 6, 8, slack 4; P - p 0, 1
+            ([(3, 7, 12), (3, 9, 9)], [(2, 12), (3, 7)], 0 if policy == NP_EDF or by_number else 1),  # d 7, started
+        ):
+            assert choose(table_of(policy, 1, tasks), with_jobs(*jobs)) == [runs]
+    late = table_of(P_EDF, 2, [(1, 2, 2), (2, 2, 2), (2, 4, 4)])
+    assert verdict(late, MOST_SLOTS) == ("unsafe", 3, 15)
+    kept = table_of(P_EDF, 2, [(1, 2, 2), (1, 2, 2), (3, 4, 4)])
+    assert verdict(kept, MOST_SLOTS) == ("safe", 0, 22)
 
 
 def check_beside_deadlines() -> None:
@@ -612,7 +646,7 @@ def check_beside_deadlines() -> None:
 
 def self_check() -> None:
     """Section "Benchmark tables": every entry, starred or not. Then demand 3: the levels are those
-    that replaying every list gives. Then files of states, and policy 4."""
+    that replaying every list gives. Then files of states, policy 4, and the age."""
     big = MOST_SLOTS
     two = table_of(P_GFP, 1, [(1, 2, 2), (1, 2, 2)])
     assert verdict(two, big) == ("safe", 0, 4) and verdict(two, 3) == ("room", 0, 3)
@@ -645,6 +679,7 @@ def self_check() -> None:
     check_files()
     check_least_slack()
     check_beside_deadlines()
+    check_age()
 
 
 if __name__ == "__main__":
