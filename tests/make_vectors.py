@@ -59,6 +59,7 @@ output is filled as the writer's.
     accepted, no, refused R: how the copy is judged for the sheet (not if its own answer is a refusal)
 """
 import sys
+from contextlib import contextmanager
 from itertools import product
 from pathlib import Path
 from typing import Callable, Iterable, Iterator, NamedTuple
@@ -521,6 +522,20 @@ class Dice:
                 return state
         return START
 
+    def tied_jobs(self) -> tuple[Table, State]:
+        """A table and a proper state in which all jobs have the same d, or the same slack, and few ages."""
+        while True:
+            by_slack, level, tasks, jobs = self.below(2), self.between(2, 9), [], []
+            for _ in range(self.between(2, 8)):
+                age, c = self.below(4), self.between(1, level)
+                D = level + age + c * by_slack
+                P = self.between(D, D + 5)
+                tasks.append((self.between(c, min(c + 1, D)), D, P))
+                jobs.append((c, P - age))
+            table = table_of(self.below(len(ref.POLICIES)), self.between(1, 4), tasks)
+            if ref.is_proper(table, state_of(*jobs)):
+                return table, state_of(*jobs)
+
     def legal_mask(self, table: Table, state: State) -> int:
         mask = 0
         for i in range(table.n):
@@ -592,6 +607,37 @@ def slack_vectors(policy: int, name: str) -> Iterator[Vector]:
     yield tick_vector(f"{name}: three of slack 0, one core", changed(tight, m=1), none_left, 0)
 
 
+def age_vectors(policy: int, name: str) -> Iterator[Vector]:
+    """Document 02, §4: the choice where d, or the slack, is equal, by the greater P - p and then by task number."""
+    for label, tasks, jobs in (
+        ("d 7 and slack 4 twice, the second older", [(3, 7, 12), (3, 9, 9)], [(3, 12), (3, 7)]),
+        ("d 7 and slack 4 twice, the first older", [(3, 9, 9), (3, 7, 12)], [(3, 7), (3, 12)]),
+        ("d 7 and slack 4 twice, of one age", [(3, 9, 12), (3, 9, 9)], [(3, 10), (3, 7)]),
+        ("d 7 twice, the older with more slack", [(4, 7, 12), (3, 9, 9)], [(4, 12), (3, 7)]),
+        ("d 7 twice, the newer started", [(4, 7, 12), (3, 9, 9)], [(3, 12), (3, 7)]),
+        ("slack 4 twice, the older with more time left", [(2, 6, 9), (4, 9, 12)], [(2, 9), (4, 11)]),
+        ("slack 4 twice, the older with less time left", [(4, 8, 12), (2, 9, 9)], [(4, 12), (2, 6)]),
+        ("slack 4 twice, of one age", [(4, 8, 12), (2, 6, 9)], [(4, 12), (2, 9)]),
+        ("d 5 twice, the older with more p", [(1, 6, 10), (1, 7, 200)], [(1, 9), (1, 198)]),
+        ("d 5 twice, the older with less p", [(1, 7, 200), (1, 10, 10)], [(1, 198), (1, 5)]),
+        ("d 1 twice, ages 0 and 199", [(1, 1, 1), (1, 200, 200)], [(1, 1), (1, 1)]),
+        ("d 2 twice, ages 127 and 128", [(1, 129, 200), (1, 130, 200)], [(1, 73), (1, 72)]),
+        ("d 3 with age 197, d 2 with age 0", [(1, 200, 200), (1, 2, 200)], [(1, 3), (1, 200)]),
+        ("d 2 with age 0, d 3 with age 197", [(1, 2, 200), (1, 200, 200)], [(1, 200), (1, 3)]),
+    ):
+        yield tick_vector(f"{name}: {label}", table_of(policy, 1, tasks), state_of(*jobs), 0)
+    for label, tasks, jobs, cores in (
+        ("d 6 and slack 4", [(2, 7, 7), (2, 9, 9), (2, 6, 6), (2, 9, 12), (2, 8, 8)], [(2, 6), (2, 6), (2, 6), (2, 9), (2, 6)], 4),
+        ("slack 4", [(3, 8, 8), (1, 8, 8), (4, 8, 8), (2, 9, 9), (1, 7, 7)], [(3, 7), (1, 5), (4, 8), (2, 6), (1, 5)], 4),
+        ("d 6, the third started", [(2, 7, 7), (2, 9, 9), (3, 6, 6), (2, 9, 12), (2, 8, 8)], [(2, 6), (2, 6), (2, 6), (2, 9), (2, 6)], 3),
+    ):
+        for m in range(1, cores + 1):
+            yield tick_vector(f"{name}: {label}, ages 1, 3, 0, 3, 2, m {m}", table_of(policy, m, tasks), state_of(*jobs), 0)
+    for label, ages in (("0 to 7", range(8)), ("7 to 0", range(7, -1, -1))):
+        eight = table_of(policy, 3, [(1, 4 + age, 20) for age in ages])
+        yield tick_vector(f"{name}: d 4 eight times, ages {label}", eight, state_of(*[(1, 20 - age) for age in ages]), 0)
+
+
 def turn_vectors(policy: int, name: str) -> Iterator[Vector]:
     """Ticks one after the other: the slack of a job that waits falls until it has another's processor."""
     for label, table, mask in (
@@ -609,6 +655,7 @@ def tick_vectors() -> Iterator[Vector]:
     for policy, name in enumerate(NAMES):
         yield from choice_vectors(policy, name)
         yield from slack_vectors(policy, name)
+        yield from age_vectors(policy, name)
         yield from turn_vectors(policy, name)
         table = table_of(policy, 1, TWO)
         yield tick_vector(f"{name}: nothing to do", table, START, 0)
@@ -624,7 +671,7 @@ def tick_vectors() -> Iterator[Vector]:
         yield tick_vector(f"{name}: an urgent job beside a started one", urgent, state_of((0, 0), (3, 8)), 1)
         unstarted = table_of(policy, 1, [(1, 2, 2), (4, 9, 9)])
         yield tick_vector(f"{name}: an urgent job beside an unstarted one", unstarted, state_of((0, 0), (4, 7)), 1)
-        # the order: by number, or by deadline with ties by number
+        # the order: by number, or by deadline, then by age and by number
         late_first = table_of(policy, 1, [(2, 9, 9), (2, 5, 5)])
         yield tick_vector(f"{name}: the second has the earlier deadline", late_first, START, 3)
         tie = table_of(policy, 1, [(2, 5, 9), (2, 5, 7), (2, 5, 8)])
@@ -687,6 +734,8 @@ def tick_vectors() -> Iterator[Vector]:
             place = dice.below(8)
             state = changed(state, c=entry(state.c, place, dice.below(256)))
         yield tick_vector(f"drawn {number + 1}", table, state, mask)
+    for number in range(40):
+        yield tick_vector(f"drawn {number + 1} of equal jobs", *dice.tied_jobs(), 0)
 
 
 def drawn_masks(dice: Dice, table: Table, length: int) -> bytes:
@@ -708,18 +757,67 @@ PARTED = [
     (2, [(1, 2, 2), (1, 1, 2), (2, 2, 2)], "unsafe 1 1", "safe 9"),
     (3, [(1, 2, 2), (2, 2, 2), (1, 1, 2), (1, 1, 1)], "unsafe 1 1", "safe 10"),
     (2, [(2, 3, 3), (1, 1, 3), (1, 2, 2), (1, 1, 2)], "unsafe 3 41", "safe 44"),
-    (2, [(2, 2, 5), (2, 3, 3), (2, 4, 4), (1, 2, 3)], "safe 240", "unsafe 8 229"),
-    (2, [(2, 4, 5), (3, 5, 5), (2, 2, 4), (1, 2, 3)], "safe 453", "unsafe 11 420"),
-    (3, [(2, 2, 5), (2, 3, 3), (2, 4, 4), (1, 2, 3), (1, 1, 1)], "safe 321", "unsafe 8 301"),
+    (2, [(1, 2, 3), (2, 3, 3), (3, 5, 6), (1, 2, 3)], "safe 231", "unsafe 5 173"),
+    (2, [(2, 3, 4), (1, 2, 2), (1, 1, 2), (3, 6, 7)], "safe 202", "unsafe 7 190"),
+    (3, [(1, 2, 3), (2, 3, 3), (3, 5, 6), (1, 2, 3), (1, 1, 1)], "safe 299", "unsafe 5 232"),
     (2, [(2, 3, 3), (1, 2, 2), (1, 1, 2)], "safe 14", "safe 12"),
-    (2, [(2, 3, 3), (1, 2, 3), (3, 4, 4)], "safe 44", "safe 47"),
-    (2, [(2, 3, 4), (1, 2, 2), (2, 4, 4), (1, 1, 2)], "safe 100", "safe 115"),
+    (2, [(2, 3, 3), (1, 2, 3), (3, 4, 4)], "safe 44", "safe 46"),
+    (2, [(2, 3, 4), (1, 2, 2), (2, 4, 4), (1, 1, 2)], "safe 102", "safe 100"),
+    (2, [(2, 4, 4), (2, 4, 4), (2, 4, 4), (2, 3, 4)], "safe 256", "safe 375"),
     (2, [(1, 2, 2), (2, 2, 2), (1, 1, 1)], "unsafe 1 1", "unsafe 2 5"),
-    (2, [(2, 2, 4), (2, 3, 3), (2, 4, 4), (1, 2, 3)], "unsafe 7 192", "unsafe 6 183"),
-    (2, [(2, 3, 3), (2, 4, 4), (1, 1, 1)], "unsafe 8 30", "unsafe 8 29"),
-    (1, [(1, 3, 3), (3, 4, 4)], "unsafe 10 19", "unsafe 12 21"),
+    (2, [(1, 2, 3), (2, 3, 3), (1, 2, 3), (3, 5, 5)], "unsafe 8 212", "unsafe 5 173"),
+    (2, [(2, 3, 3), (2, 4, 4), (1, 1, 1)], "unsafe 8 31", "unsafe 8 30"),
+    (1, [(1, 3, 3), (3, 4, 4)], "unsafe 12 21", "unsafe 12 21"),
     (1, [(3, 7, 7), (2, 5, 5)], "safe 35", "safe 35"),
 ]
+
+
+# Tables that tell the age from the task number among equal jobs: the policy, the cores, the tasks, how they are answered where
+# the number alone settles equal d, or equal slack, as in 01, and how by the age first, as document 02, §4 has it.
+AGED = [
+    (2, 2, [(2, 2, 2), (2, 2, 3), (1, 3, 3)], "safe 22", "unsafe 3 21"),
+    (2, 2, [(1, 1, 2), (1, 2, 2), (1, 2, 3), (2, 3, 3)], "unsafe 5 50", "safe 56"),
+    (2, 1, [(2, 2, 2), (1, 4, 4)], "unsafe 4 12", "unsafe 3 8"),
+    (2, 1, [(1, 2, 2), (2, 3, 3)], "unsafe 5 9", "unsafe 6 10"),
+    (2, 2, [(1, 1, 1), (1, 2, 2), (1, 2, 2), (1, 3, 3)], "unsafe 4 26", "unsafe 4 25"),
+    (2, 2, [(1, 1, 1), (2, 3, 3), (1, 4, 4), (1, 3, 3)], "unsafe 6 89", "unsafe 6 91"),
+    (2, 2, [(2, 3, 3), (3, 4, 4), (2, 5, 5)], "safe 94", "safe 82"),
+    (2, 2, [(2, 4, 4), (3, 5, 5), (4, 6, 6)], "safe 201", "safe 205"),
+    (2, 1, [(2, 3, 3), (2, 4, 5)], "unsafe 8 23", "unsafe 8 23"),
+    (3, 2, [(1, 2, 2), (2, 2, 2), (2, 4, 4)], "safe 22", "unsafe 3 15"),
+    (3, 2, [(1, 2, 2), (1, 2, 2), (3, 4, 4)], "unsafe 3 13", "safe 22"),
+    (3, 2, [(2, 2, 5), (2, 3, 3), (2, 4, 4), (1, 2, 3)], "safe 240", "unsafe 3 81"),
+    (3, 3, [(1, 2, 3), (2, 3, 3), (3, 5, 6), (1, 2, 3), (1, 1, 1)], "unsafe 5 229", "safe 299"),
+    (3, 1, [(2, 2, 2), (1, 4, 4)], "unsafe 4 12", "unsafe 3 8"),
+    (3, 1, [(1, 2, 2), (2, 3, 3)], "unsafe 5 9", "unsafe 6 10"),
+    (3, 2, [(3, 3, 4), (1, 3, 4), (5, 6, 6)], "unsafe 9 128", "unsafe 9 127"),
+    (3, 2, [(1, 1, 1), (2, 3, 3), (2, 4, 4)], "unsafe 8 30", "unsafe 8 31"),
+    (3, 2, [(1, 2, 2), (1, 3, 3), (3, 4, 4)], "safe 29", "safe 28"),
+    (3, 2, [(1, 2, 2), (2, 3, 3), (2, 4, 4)], "safe 31", "safe 32"),
+    (3, 2, [(2, 3, 3), (1, 2, 3), (3, 4, 4)], "safe 44", "safe 44"),
+    (4, 2, [(2, 2, 3), (3, 4, 6), (2, 3, 3)], "safe 67", "unsafe 5 56"),
+    (4, 2, [(1, 2, 2), (3, 3, 4), (3, 5, 5)], "unsafe 10 63", "safe 55"),
+    (4, 2, [(2, 2, 3), (3, 4, 4), (2, 3, 3)], "unsafe 8 58", "unsafe 5 48"),
+    (4, 2, [(1, 2, 2), (4, 4, 5), (4, 6, 6)], "unsafe 7 93", "unsafe 9 99"),
+    (4, 2, [(1, 2, 3), (2, 2, 3), (3, 4, 4)], "unsafe 8 46", "unsafe 8 45"),
+    (4, 2, [(1, 1, 1), (1, 2, 2), (2, 3, 3)], "unsafe 6 12", "unsafe 6 13"),
+    (4, 2, [(1, 2, 2), (1, 2, 3), (3, 4, 4)], "safe 29", "safe 28"),
+    (4, 2, [(2, 3, 3), (2, 3, 3), (1, 1, 3)], "safe 28", "safe 29"),
+    (4, 1, [(1, 2, 2), (2, 3, 3)], "unsafe 6 10", "unsafe 6 10"),
+]
+
+
+@contextmanager
+def by_number_alone() -> Iterator[None]:
+    """Within it equal d, or equal slack, is settled by task number alone, as in 01."""
+    rank = ref.rank
+    ref.rank = lambda table, state, i: (rank(table, state, i)[0], i)
+    ref.successors.cache_clear()
+    try:
+        yield
+    finally:
+        ref.rank = rank
+        ref.successors.cache_clear()
 
 
 def shortest_miss(table: Table) -> bytes:
@@ -750,6 +848,21 @@ def parted_replays() -> Iterator[Vector]:
                 yield replay_vector(f"{NAMES[other.policy]}: {label}", other, masks)
 
 
+def aged_replays() -> Iterator[Vector]:
+    """Lists that miss in one order of equal jobs; of those that another order answers with another kind, under each policy."""
+    for policy, m, tasks, was, now in AGED:
+        table, lists = table_of(policy, m, tasks), {}
+        if now.startswith("unsafe"):
+            lists["by age"] = shortest_miss(table)
+        if was.startswith("unsafe"):
+            with by_number_alone():
+                lists["by number"] = shortest_miss(table)
+        turned = was.split()[0] != now.split()[0]
+        for (order, masks), judge in product(lists.items(), ref.POLICIES if turned else (policy,)):
+            label = f"{tasks} on {m}, a list that misses under {NAMES[policy]} {order}"
+            yield replay_vector(f"{NAMES[judge]}: {label}", changed(table, policy=judge), masks)
+
+
 def replay_vectors() -> Iterator[Vector]:
     for policy, name in enumerate(NAMES):
         two = table_of(policy, 1, TWO)
@@ -772,6 +885,7 @@ def replay_vectors() -> Iterator[Vector]:
         yield replay_vector(f"{name}: three jobs whose slacks cross, three ticks", turns, bytes([7, 0, 0]))
         yield replay_vector(f"{name}: three jobs whose slacks cross, one of them twice", turns, bytes([7] + [0] * 6 + [2, 0]))
     yield from parted_replays()
+    yield from aged_replays()
     # a tick number that one byte does not hold
     full = table_of(3, 1, [(2, 3, 3), (2, 3, 3)])
     yield replay_vector("a miss at tick 258", full, bytes(256) + b"\x03" + bytes(10))
@@ -809,9 +923,10 @@ MISSES = [
     (2, 2, [(2, 7, 8), (1, 1, 2)]),
     (2, 4, [(1, 3, 3), (4, 6, 9)]),
     (2, 5, [(1, 4, 4), (13, 14, 14)]),
+    (2, 6, [(5, 5, 5), (1, 10, 12)]),
     (2, 7, [(1, 6, 6), (10, 14, 15)]),
     (2, 8, [(2, 3, 3), (2, 4, 5)]),
-    (2, 10, [(5, 5, 5), (1, 10, 12)]),
+    (2, 10, [(10, 15, 15), (1, 9, 10)]),
     (3, 3, [(9, 10, 14), (1, 1, 2)]),
     (3, 6, [(4, 6, 7), (1, 2, 2)]),
     (3, 9, [(9, 14, 15), (3, 6, 6)]),
@@ -960,8 +1075,22 @@ def parted_searches() -> Iterator[Search]:
         assert states[0] != states[1], tasks
 
 
+def aged_searches() -> Iterator[Search]:
+    """Tables on which the age and the task number among equal jobs differ: in the verdict, L, the count or the states."""
+    for policy, m, tasks, was, now in AGED:
+        table = table_of(policy, m, tasks)
+        with by_number_alone():
+            before = ref.verdict(table, ref.MOST_SLOTS)
+            states = ref.stored_states(table, before)
+        found = ref.verdict(table, ref.MOST_SLOTS)
+        assert (answer(before), answer(found)) == (was, now) and states != ref.stored_states(table, found), tasks
+        search = of_table(f"{NAMES[policy]} {tasks} on {m}, by age", policy, m, tasks)
+        yield from (search, search.with_slots(found.N - 1))
+
+
 def search_vectors() -> Iterator[Vector]:
-    for searches in (benchmark_searches, space_searches, refused_searches, policy_searches, miss_searches, parted_searches):
+    by_table = (policy_searches, miss_searches, parted_searches, aged_searches)
+    for searches in (benchmark_searches, space_searches, refused_searches, *by_table):
         yield from (search_vector(*search) for search in searches())
 
 
@@ -974,6 +1103,9 @@ def call_searches() -> Iterator[Search]:
     for policy, name in enumerate(NAMES):
         yield of_table(f"{name}, four tasks of document 000", policy, 2, [(i, 2 * i + 2, 2 * i + 2) for i in range(1, 5)])
         yield of_table(f"{name}, L 14", policy, 1, [(1, 1, 1), (1, 14, 14)])
+    for policy, m, tasks, was, now in AGED:
+        if was.split()[0] != now.split()[0]:
+            yield of_table(f"{NAMES[policy]} {tasks} on {m}, by age", policy, m, tasks)
 
 
 def call_vectors() -> Iterator[Vector]:
@@ -1176,8 +1308,10 @@ def foreign_files() -> Iterator[File]:
         ("the tasks swapped", table_of(3, 1, [(2, 4, 5), (1, 2, 3)])),
         ("C more", table_of(3, 1, [(2, 2, 3), (2, 4, 5)])),
         ("D less", table_of(3, 1, [(1, 2, 3), (2, 3, 5)])),
+        ("D less, the same states", table_of(3, 1, [(1, 1, 3), (2, 4, 5)])),
         ("D less, unsafe", table_of(3, 1, [(1, 2, 3), (2, 2, 5)])),
         ("D more", table_of(3, 1, [(1, 3, 3), (2, 4, 5)])),
+        ("D more, the same states", table_of(3, 1, [(1, 2, 3), (2, 5, 5)])),
         ("P less", table_of(3, 1, [(1, 2, 3), (2, 4, 4)])),
         ("P more", table_of(3, 1, [(1, 2, 3), (2, 4, 6)])),
     ):
@@ -1194,6 +1328,20 @@ def parted_files() -> Iterator[File]:
             for judge in (ref.P_EDF, ref.P_LST):
                 label = f"{tasks} on {m}, the file of {NAMES[policy]} for {NAMES[judge]}"
                 yield file_of(label, table_of(judge, m, tasks), own)
+
+
+def aged_files() -> Iterator[File]:
+    """The file of a table, and the one that it has where the task number alone settles equal jobs; of 240 states at most."""
+    for policy, m, tasks, was, now in AGED:
+        table, label = table_of(policy, m, tasks), f"{NAMES[policy]} {tasks} on {m}"
+        kept = {found: found.startswith("safe") and int(found.split()[1]) <= 240 for found in (was, now)}
+        if kept[now]:
+            yield file_of(f"{label}, the file by age", table, safe_states(table)[::-1])
+        if kept[was]:
+            with by_number_alone():
+                own = safe_states(table)
+            assert not ref.closed(table, ref.file_of(own))
+            yield file_of(f"{label}, the file by number", table, own)
 
 
 def drawn_files() -> Iterator[File]:
@@ -1219,7 +1367,7 @@ def drawn_files() -> Iterator[File]:
 
 def closed_vectors() -> Iterator[Vector]:
     by_state = (order_files, mask_files, changed_files, improper_files, superset_files, unsafe_files)
-    for files in (*by_state, length_files, foreign_files, parted_files, drawn_files):
+    for files in (*by_state, length_files, foreign_files, parted_files, aged_files, drawn_files):
         yield from (closed_vector(label, sheet_bytes(table), data) for label, table, data in files())
     # a sheet's refusal comes before 14
     two = table_of(1, 1, TWO)
@@ -1289,6 +1437,10 @@ def evidence_vectors() -> Iterator[Vector]:
         unsafe = of_table(f"{name}, unsafe", policy, 1, [(2, 2, 2), (1, 2, 2)])
         yield from kept_copies(unsafe.label, unsafe, 10, (1, count_of(unsafe), 10, 11))
         yield from kept_copies(f"{name}, one state", of_table("", policy, 1, [(1, 1, 1)]), 1, (0, 1, 2))
+    for policy, m, tasks, _, now in AGED:
+        if now.startswith("safe") and (N := int(now.split()[1])) <= 60:
+            aged = of_table(f"{NAMES[policy]} {tasks} on {m}, by age", policy, m, tasks)
+            yield from kept_copies(aged.label, aged, N, (N,))
     paper = Search("the paper's sheet, unsafe", PAPER)
     yield from kept_copies(paper.label, paper, 5, (1, 4, 5, 6))
     # a state a level, so that the order of the slots is known
