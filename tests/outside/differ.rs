@@ -1,11 +1,12 @@
 //! Differential test: the library's calls against the independent implementation of model.rs.
 //!
-//!     differ [--seed S] [--sheets N] [--case I] [--fault 1..21] [--corpus DIR]
+//!     differ [--seed S] [--sheets N] [--case I] [--fault 1..26] [--corpus DIR]
 //!
 //! Prints its seed, and at the end what was met. Ends with status 1 at the first difference.
 //! `--case I` runs that sheet of the seed alone. `--fault` seeds a mistake in the independent side.
 //! `--corpus` also takes the sheets of a folder, and compares the lines of its cases.txt.
 
+mod ages;
 mod calls;
 mod check;
 mod evidence;
@@ -15,7 +16,7 @@ mod model;
 mod rng;
 
 use check::{Called, Searched, SLOT};
-use model::{End, Levels, Model, Replay, Table, Verdict, POLICIES, TABLE};
+use model::{End, Levels, Model, Replay, Table, Verdict, BY_NUMBER, POLICIES, TABLE};
 use rng::Rng;
 use std::collections::{BTreeMap, HashSet};
 
@@ -26,8 +27,8 @@ const LIMIT: usize = 1500;
 const PUBLISHED: [(u8, [Verdict; POLICIES as usize]); 2] = {
     use Verdict::{Safe, Unsafe};
     [
-        (5, [Safe(23_881), Safe(23_800), Safe(23_881), Safe(23_871), Safe(23_760)]),
-        (6, [Safe(435_379), Unsafe(14, 397_270), Safe(435_357), Safe(428_229), Safe(402_475)]),
+        (5, [Safe(23_881), Safe(23_800), Safe(23_881), Safe(23_885), Safe(23_776)]),
+        (6, [Safe(435_379), Unsafe(14, 397_270), Safe(435_106), Safe(427_413), Safe(406_235)]),
     ]
 };
 
@@ -430,6 +431,17 @@ impl Run {
         }
     }
 
+    /// Counts the tables of policies 2 to 4 that tell the age from the task number among equal jobs.
+    fn told_by_age(&mut self, t: &Table, by_age: &Levels) {
+        let by_number = Model { fault: BY_NUMBER }.levels(t, LIMIT);
+        if by_number.depth != by_age.depth {
+            self.met.add(&format!("sheets of policy {} with other states by number alone", t.policy));
+        }
+        if by_number.end != by_age.end {
+            self.met.add(&format!("sheets of policy {} with another end by number alone", t.policy));
+        }
+    }
+
     /// One generated sheet, with spaces at every edge.
     fn case(&mut self, r: &mut Rng, sheet: Vec<u8>) -> Result<(), String> {
         let s = self.subject(sheet, LIMIT);
@@ -449,6 +461,9 @@ impl Run {
             }
             return self.replays(r, &s, &[]);
         };
+        if let Ok(t @ Table { policy: 2..=4, .. }) = &s.reading {
+            self.told_by_age(t, levels);
+        }
         if let Ok(t @ Table { policy: 4, .. }) = &s.reading {
             self.told_apart(t, levels);
         }
@@ -595,11 +610,11 @@ impl Run {
         use Verdict::{Safe, Unsafe};
         let entries: [(&[(u8, u8, u8)], Verdict, Verdict); 6] = [
             (&[(1, 2, 2), (1, 1, 2), (2, 2, 2)], Unsafe(1, 1), Safe(9)),
-            (&[(2, 2, 5), (2, 3, 3), (2, 4, 4), (1, 2, 3)], Safe(240), Unsafe(8, 229)),
+            (&[(1, 2, 3), (2, 3, 3), (3, 5, 6), (1, 2, 3)], Safe(231), Unsafe(5, 173)),
             (&[(1, 2, 2), (2, 2, 2), (1, 1, 1)], Unsafe(1, 1), Unsafe(2, 5)),
-            (&[(2, 2, 4), (2, 3, 3), (2, 4, 4), (1, 2, 3)], Unsafe(7, 192), Unsafe(6, 183)),
+            (&[(1, 2, 3), (2, 3, 3), (1, 2, 3), (3, 5, 5)], Unsafe(8, 212), Unsafe(5, 173)),
             (&[(2, 3, 3), (1, 2, 2), (1, 1, 2)], Safe(14), Safe(12)),
-            (&[(2, 3, 3), (1, 2, 3), (3, 4, 4)], Safe(44), Safe(47)),
+            (&[(2, 3, 3), (1, 2, 3), (3, 4, 4)], Safe(44), Safe(46)),
         ];
         for (tasks, earliest, least) in entries {
             self.known_verdict(r, &table(3, 2, tasks), LIMIT, earliest)?;
@@ -706,6 +721,8 @@ fn whole_run(run: &mut Run, seed: u64, sheets: u64) -> Result<(), String> {
         // A seeded fault is left to the generated sheets.
         run.benchmarks(&mut r).map_err(|e| format!("benchmark tables: {e}"))?;
         run.least_slack(&mut r).map_err(|e| format!("least slack: {e}"))?;
+        run.equal_jobs(&mut r).map_err(|e| format!("equal jobs: {e}"))?;
+        run.by_age(&mut r).map_err(|e| format!("by age: {e}"))?;
         let sets = if sheets >= 20_000 { &PUBLISHED[..] } else { &PUBLISHED[..1] };
         run.published_sets(&mut r, sets).map_err(|e| format!("document 000: {e}"))?;
         run.every_table(&mut r).map_err(|e| format!("every table: {e}"))?;
@@ -770,6 +787,8 @@ fn complete(met: &Met) -> Result<(), String> {
     }
     all.extend(["sheets", "tables"].map(|what| format!("{what} refused 4, for policy 5")));
     all.extend(["other states", "another end"].map(|what| format!("sheets of policy 4 with {what} under policy 3")));
+    all.extend((2..POLICIES).map(|p| format!("sheets of policy {p} with other states by number alone")));
+    all.push("sheets of policy 3 with another end by number alone".into());
     all.extend(["read done", "write done", "states done"].map(String::from));
     match all.iter().find(|what| met.of(what) < 20) {
         Some(what) => Err(format!("met fewer than 20 times: {what}")),
@@ -824,6 +843,6 @@ fn main() {
 }
 
 fn usage() -> ! {
-    eprintln!("usage: differ [--seed S] [--sheets N] [--case I] [--fault 1..21] [--corpus DIR]");
+    eprintln!("usage: differ [--seed S] [--sheets N] [--case I] [--fault 1..26] [--corpus DIR]");
     std::process::exit(2);
 }

@@ -2,13 +2,13 @@
 
 use crate::check::{self, SLOT};
 use crate::files::{self, Fault, File};
-use crate::model::{self, State, Verdict, POLICIES, STATE};
+use crate::model::{self, Levels, State, Verdict, POLICIES, STATE};
 use crate::rng::Rng;
 use crate::{calls, table, Found, Lent, Run, Subject, LIMIT};
 
 impl Run {
     /// One call on a file, judged by the model, and by what is known of the file.
-    fn closed(&mut self, r: &mut Rng, s: &Subject, file: &File) -> Result<(), String> {
+    pub fn closed(&mut self, r: &mut Rng, s: &Subject, file: &File) -> Result<(), String> {
         let told = |e: String| format!("file {}, {} bytes: {e}", file.name, file.bytes.len());
         let (sheet, lent) = (Lent::holding(r, &s.sheet), Lent::holding(r, &file.bytes));
         let answer = calls::closed(sheet.is(), lent.is());
@@ -154,7 +154,7 @@ impl Run {
                 self.closed(r, &s, &file)?;
             }
             let s = self.subject(model::write_sheet(&table(policy, n as u8, &[(1, 1, 2); 8][..n])), LIMIT);
-            let mut states = reached(&s);
+            let mut states = reached(s.levels.as_ref().unwrap());
             self.closed(r, &s, &File::of("of every mask", &states, Some(true)))?;
             states.retain(|s| s.wait[..n] != [1; 8][..n]);
             self.closed(r, &s, &File::of("of every mask but one", &states, Some(false)))?;
@@ -167,7 +167,7 @@ impl Run {
         for policy in 0..POLICIES {
             let t = table(policy, 1, &[(2, 6, 7), (2, 6, 8)]);
             let s = self.subject(model::write_sheet(&t), LIMIT);
-            let states = reached(&s);
+            let states = reached(s.levels.as_ref().unwrap());
             for (fault, name) in files::IMPROPER {
                 match (0..50).find_map(|_| files::but_improper(r, &self.m, &t, &states, fault)) {
                     Some(all) => self.closed(r, &s, &File::of(name, &all, Some(false)))?,
@@ -185,7 +185,7 @@ impl Run {
     pub fn sizes_of_files(&mut self, r: &mut Rng) -> Result<(), String> {
         let t = table(1, 1, &[(1, 2, 2), (1, 2, 2)]);
         let s = self.subject(model::write_sheet(&t), 10);
-        let states = reached(&s);
+        let states = reached(s.levels.as_ref().unwrap());
         for n in [12_287, 12_288, 12_289, 196_607, 196_608, 196_609, 1_000_001] {
             let mut all = files::many(r, &states, n);
             self.closed(r, &s, &File::of("of many states", &all, Some(true)))?;
@@ -210,8 +210,8 @@ impl Run {
 }
 
 /// The states that lists reach, in the order of their bytes, so that a seed gives the same run.
-fn reached(s: &Subject) -> Vec<State> {
-    let mut states: Vec<State> = s.levels.as_ref().unwrap().depth.keys().copied().collect();
+pub fn reached(levels: &Levels) -> Vec<State> {
+    let mut states: Vec<State> = levels.depth.keys().copied().collect();
     states.sort_by_key(State::bytes);
     states
 }

@@ -25,8 +25,26 @@ fn with_gaps(r: &mut Rng, n: usize, least: usize, most: usize, most_work: usize)
         .collect()
 }
 
+/// About as much work as the cores can do, in tasks with short gaps and most deadlines at the gap: jobs of different ages often
+/// have the same time left, or the same slack.
+fn crowded_table(r: &mut Rng) -> Table {
+    let n = r.range(3, 4);
+    let mut tasks = with_gaps(r, n, 2, 5, 3);
+    for task in &mut tasks {
+        if r.one_in(2) {
+            task.deadline = task.gap;
+        }
+    }
+    let sixtieths: usize = tasks.iter().map(|t| 60 * t.work as usize / t.gap as usize).sum();
+    let cores = ((sixtieths + 30) / 60).max(1) as u8;
+    Table { policy: policy(r), cores, tasks }
+}
+
 /// A valid table. Most have at most some hundreds of states; some have more than any search here looks at.
 pub fn table(r: &mut Rng) -> Table {
+    if r.one_in(5) {
+        return crowded_table(r);
+    }
     let tasks = match r.below(100) {
         0..=29 => {
             let n = r.range(1, 3);
@@ -82,6 +100,10 @@ pub fn tiny_table(r: &mut Rng) -> Table {
     with_policy(r, tasks)
 }
 
+fn policy(r: &mut Rng) -> u8 {
+    r.below(POLICIES as usize) as u8
+}
+
 fn with_policy(r: &mut Rng, tasks: Vec<Task>) -> Table {
     let cores = match r.below(9) {
         0..=3 => 1,
@@ -90,7 +112,7 @@ fn with_policy(r: &mut Rng, tasks: Vec<Task>) -> Table {
         7 => tasks.len().max(2) - 1,
         _ => r.range(1, 8),
     };
-    Table { policy: r.below(POLICIES as usize) as u8, cores: cores as u8, tasks }
+    Table { policy: policy(r), cores: cores as u8, tasks }
 }
 
 /// One change of a sheet's bytes.

@@ -1,6 +1,7 @@
 //! The rules of document 01 written once more: sheet, table, tick, replay, and a search with plain sets; and those of document
-//! 02's closed lists (§1) and least slack first (§3). Slow and direct; shares nothing with the library. Section names in the
-//! comments are document 01's. Tasks are counted from 0 here, so task i of this file is the document's task i + 1.
+//! 02's closed lists (§1), least slack first (§3) and equal jobs by age (§4). Slow and direct; shares nothing with the library.
+//! Section names in the comments are document 01's. Tasks are counted from 0 here, so task i of this file is the document's
+//! task i + 1.
 
 use std::collections::{HashMap, HashSet};
 
@@ -119,8 +120,11 @@ pub struct Model {
     pub fault: u8,
 }
 
+/// The fault that is document 01's order of equal jobs, before document 02's §4.
+pub const BY_NUMBER: u8 = 23;
+
 /// Faults that `Model` knows.
-pub const FAULTS: [&str; 21] = [
+pub const FAULTS: [&str; 26] = [
     "under NP an urgent job takes a started job's core",
     "a deadline is tested only when no time is left",
     "a task's rule is judged after all tasks",
@@ -139,9 +143,14 @@ pub const FAULTS: [&str; 21] = [
     "least slack is ordered by the time left",
     "least slack is that of the state before the release",
     "least slack is that of the tick in which a job was released",
-    "of jobs with equal slack the higher task number runs first",
+    "of jobs with equal slack and age the higher task number runs first",
     "under least slack no more jobs are started than cores",
     "policy 5 is let pass",
+    "of jobs with equal time left or slack the newer runs first",
+    "of jobs with equal time left or slack the lower task number runs first, whatever their age",
+    "under fixed priority the oldest job runs first",
+    "of jobs with equal time left or slack the one with the smaller p runs first",
+    "the age is that of the state before the release",
 ];
 
 // The sheet.
@@ -283,7 +292,7 @@ impl Model {
 
     // The tick.
 
-    /// What a ready job is ordered by before its task number: nothing under GFP, the time left under EDF, the slack under LST.
+    /// What a ready job is ordered by first: nothing under GFP, the time left under EDF, the slack under LST.
     fn urgency(&self, t: &Table, s: &State, i: usize) -> i32 {
         match t.policy {
             2 | 3 => time_left(t, s, i),
@@ -294,25 +303,38 @@ impl Model {
         }
     }
 
-    /// Steps 2 and 3, after the release: sort the ready jobs, then hand out the cores. Bit i is set where task i runs. The
-    /// urgency is that of the state `seen`, which is the same one unless a mistake is seeded.
-    fn running(&self, t: &Table, s: &State, seen: &State) -> u8 {
+    /// What settles equal urgency before the task number, document 02's §4: nothing under GFP, else the greater age.
+    fn youth(&self, t: &Table, s: &State, i: usize) -> i32 {
+        match (t.policy, self.fault) {
+            (0 | 1, 24) => -age(t, s, i),
+            (0 | 1, _) | (_, BY_NUMBER) => 0,
+            (_, 22) => age(t, s, i),
+            (_, 25) => s.wait[i] as i32,
+            _ => -age(t, s, i),
+        }
+    }
+
+    /// Steps 2 and 3, after the release: sort the ready jobs, then hand out the cores. Bit i is set where task i runs. `given` is
+    /// the state before the release, which matters only where a mistake is seeded.
+    fn running(&self, t: &Table, s: &State, given: &State) -> u8 {
         let keeps_core = !preempted(t.policy) && self.fault != 1;
-        let mut ready = [(0i32, 0i32, 0i32, 0usize); TASKS];
+        let by_slack = if self.fault == 17 && t.policy == 4 { given } else { s };
+        let by_age = if self.fault == 26 { given } else { s };
+        let mut ready = [(0i32, 0i32, 0i32, 0i32, 0usize); TASKS];
         let mut jobs = 0;
         for i in 0..t.tasks.len() {
             if s.left[i] > 0 {
                 let started = s.left[i] < t.tasks[i].work;
                 let first = if keeps_core && started { 0 } else { 1 };
                 let number = if self.fault == 19 && t.policy == 4 { -(i as i32) } else { i as i32 };
-                ready[jobs] = (first, self.urgency(t, seen, i), number, i);
+                ready[jobs] = (first, self.urgency(t, by_slack, i), self.youth(t, by_age, i), number, i);
                 jobs += 1;
             }
         }
         let ready = &mut ready[..jobs];
         ready.sort_unstable();
         let mut running = 0;
-        for (place, &(first, _, _, i)) in ready.iter().enumerate() {
+        for (place, &(first, .., i)) in ready.iter().enumerate() {
             if first == 0 || place < t.cores as usize {
                 running |= 1 << i;
             }
@@ -334,8 +356,7 @@ impl Model {
             s.left[i] = t.tasks[i].work;
             s.wait[i] = t.tasks[i].gap;
         }
-        let seen = if self.fault == 17 && t.policy == 4 { given } else { &s };
-        let running = self.running(t, &s, seen);
+        let running = self.running(t, &s, given);
         for i in 0..n {
             s.left[i] -= running >> i & 1;
             s.wait[i] = s.wait[i].saturating_sub(1);
@@ -464,9 +485,14 @@ impl Model {
     }
 }
 
+/// P - p.
+fn age(t: &Table, s: &State, i: usize) -> i32 {
+    t.tasks[i].gap as i32 - s.wait[i] as i32
+}
+
 /// d = D - (P - p).
 fn time_left(t: &Table, s: &State, i: usize) -> i32 {
-    t.tasks[i].deadline as i32 - (t.tasks[i].gap as i32 - s.wait[i] as i32)
+    t.tasks[i].deadline as i32 - age(t, s, i)
 }
 
 /// d - c.
