@@ -54,11 +54,12 @@ extern "C" {
  * of the others get the processors that are left. The order:
  *
  *   GFP   fixed priority: by task number
- *   EDF   earliest deadline first: by smaller time left, then by task number
- *   LST   least slack first: by smaller slack, then by task number, anew at every tick
+ *   EDF   earliest deadline first: by smaller time left, then by greater age, then by task number
+ *   LST   least slack first: by smaller slack, then by greater age, then by task number, anew at every tick
  *
- * The time left of a job is D less the ticks since its release, and its slack is the time left less the work left. So the slack
- * of a job that waits falls by 1 a tick; below 0 it is a miss.
+ * The age of a job is the number of ticks since its release, 0 in the tick of the release. Its time left is D less the age, and
+ * its slack is the time left less the work left. So the slack of a job that waits falls by 1 a tick; below 0 it is a miss. And of
+ * jobs that are due at the same tick EDF takes the one that was released first; the task number decides where that is equal too.
  *
  * A number is written in groups of seven bits, low group first, a byte each, with the top bit set when another group follows:
  * one byte below 128, else two. So 4 is 04, and 200 = 1 * 128 + 72 is C8 01 (72 is 48 hexadecimal, C8 with the top bit set).
