@@ -8,10 +8,10 @@ use Verdict::{Safe, Unsafe};
 
 /// A table on which the age and the task number among equal jobs part: policy, cores, tasks, the verdict with the number alone,
 /// as in document 01, and the verdict with the age.
-type Parted = (u8, u8, &'static [(u8, u8, u8)], Verdict, Verdict);
+type Aged = (u8, u8, &'static [(u8, u8, u8)], Verdict, Verdict);
 
 /// Under each policy that has an age: Safe no more, Safe now, a shorter and a longer list, fewer and more states.
-const PARTED: [Parted; 22] = [
+const AGED: [Aged; 22] = [
     (2, 2, &[(2, 2, 2), (2, 2, 3), (1, 3, 3)], Safe(22), Unsafe(3, 21)),
     (2, 2, &[(1, 1, 2), (1, 2, 2), (1, 2, 3), (2, 3, 3)], Unsafe(5, 50), Safe(56)),
     (2, 1, &[(2, 2, 2), (1, 4, 4)], Unsafe(4, 12), Unsafe(3, 8)),
@@ -120,7 +120,7 @@ impl Run {
     /// Tables whose verdict, L, count or states are others by age than by number: known verdicts, and the files of both orders, of
     /// which that of the other order is not closed.
     pub fn by_age(&mut self, r: &mut Rng) -> Result<(), String> {
-        for (policy, cores, tasks, number, age) in PARTED {
+        for (policy, cores, tasks, number, age) in AGED {
             let t = table(policy, cores, tasks);
             let before = Model { fault: BY_NUMBER }.levels(&t, LIMIT);
             if before.verdict(LIMIT) != Some(number) {
