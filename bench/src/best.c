@@ -1,15 +1,15 @@
 /* The fastest native search found for the same rules. What each state's masks have in common is done once a state: a task's place in
-   the order does not depend on the mask (a releasable task, if released, has time left D and slack D - C), so the tasks are put in
+   the order does not depend on the mask (a releasable task, if released, has time left D, slack D - C and age 0), so the tasks are put in
    order once and a mask's choice is the lowest m bits of the ready ones in that order (one pdep). The table of open addressing holds
    the states themselves, in 8 bytes where their numbers fit in 63 bits, looked up some places behind; the full mask is tried for a
    miss when a state is stored, and the answer waits for the end of its level. */
-#include "engine.h"
+#include "order.h"
 
-#include <immintrin.h>
 #include <string.h>
 #include <sys/mman.h>
 
-enum { BEHIND = 32, FEWEST = 12, MOST = 21 }; /* FEWEST and MOST: bits of a place */
+enum { BEHIND = 32, FEWEST = 12, MOST = 21 }; /* FEWEST and MOST: bits of a place in the table */
+enum { FAR_LST = P_LST + 1 };                /* LST where some D is far has a search of its own */
 
 /* Two spaces, so that a table can grow from one into the other. */
 static uint64_t *spaces[2];
@@ -18,7 +18,7 @@ typedef struct {
     __m128i fresh;        /* C and P - 1 of each task, as in a slot: what a release leaves before the run */
     __m128i work;         /* C, in 16-bit lanes */
     __m128i shift, gap;   /* D - P and P, in 16-bit lanes */
-    __m128i lane;
+    __m128i lane, base;   /* a task's number, and what it has from the table in the order */
     uint64_t low, high;   /* the bits that the numbers of tasks 1 to 4 and 5 to 8 can have */
     unsigned low_bits, m;
 } Vectors;
@@ -42,31 +42,25 @@ static inline unsigned sum8(__m128i bytes)
     return (unsigned)(_mm_cvtsi128_si32(s) + _mm_extract_epi16(s, 4));
 }
 
+/* The tasks' places in the order, no two the same, from c and p with every releasable task (none) released. */
+static inline __m128i places(__m128i c, __m128i p, __m128i none, const Vectors *v, int policy)
+{
+    if (policy < NP_EDF) return v->lane;
+    p = _mm_or_si128(p, _mm_and_si128(none, v->gap));
+    c = _mm_or_si128(c, _mm_and_si128(none, v->work));
+    __m128i key = _mm_add_epi16(_mm_slli_epi16(p, 3), v->base);
+    if (policy == P_LST) key = _mm_add_epi16(key, _mm_slli_epi16(_mm_sub_epi16(p, c), 9)); /* 8 NEAR is 2^9 */
+    if (policy == FAR_LST) key = _mm_add_epi16(_mm_sub_epi16(key, _mm_slli_epi16(c, 3)), age_ranks(p, v->gap, v->lane));
+    return ranks(key);
+}
+
 static inline Ordered ordered(__m128i s, const Vectors *v, int policy)
 {
     const __m128i zero = _mm_setzero_si128(), low = _mm_set1_epi16(0xFF);
     __m128i c = _mm_and_si128(s, low), p = _mm_srli_epi16(s, 8);
     __m128i none = _mm_cmpeq_epi16(p, zero);
     __m128i ready = _mm_cmpgt_epi16(c, zero);
-    __m128i bit; /* in c's byte of each task */
-    if (policy >= NP_EDF) {
-        __m128i left = _mm_add_epi16(_mm_or_si128(p, _mm_and_si128(none, v->gap)), v->shift);
-        if (policy == P_LST) left = _mm_sub_epi16(left, _mm_or_si128(c, _mm_and_si128(none, v->work)));
-        __m128i key = _mm_or_si128(_mm_slli_epi16(left, 3), v->lane);
-        __m256i wide = _mm256_broadcastsi128_si256(key), rank = _mm256_setzero_si256();
-#define TWO(j)                                                                                                    \
-    rank = _mm256_sub_epi16(rank, _mm256_cmpgt_epi16(wide, _mm256_shuffle_epi8(wide, _mm256_set_m128i(             \
-               _mm_set1_epi16((2 * (j) + 3) << 8 | (2 * (j) + 2)), _mm_set1_epi16((2 * (j) + 1) << 8 | 2 * (j))))))
-        TWO(0);
-        TWO(2);
-        TWO(4);
-        TWO(6);
-#undef TWO
-        __m128i ranks = _mm_add_epi16(_mm256_castsi256_si128(rank), _mm256_extracti128_si256(rank, 1));
-        bit = _mm_and_si128(bits_at(ranks), low);
-    } else {
-        bit = _mm_and_si128(bits_at(v->lane), low);
-    }
+    __m128i bit = _mm_and_si128(bits_at(places(c, p, none, v, policy)), low); /* in c's byte of each task */
     Ordered o;
     o.base = _mm_subs_epu8(s, _mm_set1_epi16(0x0100));
     o.both = _mm_or_si128(bit, _mm_slli_epi16(bit, 8));
@@ -277,13 +271,15 @@ uint64_t best_verdict(const uint8_t *sheet, size_t sheet_len, uint8_t *work, siz
     for (int k = 0; k < 2; k++)
         if (!spaces[k] && !(spaces[k] = huge((size_t)16 << MOST))) return 0;
 
-    _Alignas(16) int16_t fresh[8], work_of[8], shift[8], gap[8], lane[8];
+    _Alignas(16) int16_t fresh[8], work_of[8], shift[8], gap[8], lane[8], base[8];
+    bool far = is_far(&t);
     for (int i = 0; i < 8; i++) {
         fresh[i] = (int16_t)(i < t.n ? t.work[i] | (t.gap[i] - 1) << 8 : 0);
         work_of[i] = t.work[i];
         shift[i] = (int16_t)(t.deadline[i] - t.gap[i]);
         gap[i] = t.gap[i];
         lane[i] = (int16_t)i;
+        base[i] = base_of(&t, i, far);
     }
     Vectors v;
     v.fresh = _mm_load_si128((const __m128i *)fresh);
@@ -291,6 +287,7 @@ uint64_t best_verdict(const uint8_t *sheet, size_t sheet_len, uint8_t *work, siz
     v.shift = _mm_load_si128((const __m128i *)shift);
     v.gap = _mm_load_si128((const __m128i *)gap);
     v.lane = _mm_load_si128((const __m128i *)lane);
+    v.base = _mm_load_si128((const __m128i *)base);
     v.m = t.m;
     v.low = v.high = 0;
     for (int i = 0; i < t.n; i++) {
@@ -299,6 +296,7 @@ uint64_t best_verdict(const uint8_t *sheet, size_t sheet_len, uint8_t *work, siz
     }
     v.low_bits = (unsigned)_mm_popcnt_u64(v.low);
     bool small = v.low_bits + _mm_popcnt_u64(v.high) < 64 && v.low_bits < 64;
+    if (far) return search(&v, work, slots, trace, FAR_LST, false);
     switch (t.policy * 2 + small) {
     case 0: return search(&v, work, slots, trace, NP_GFP, false);
     case 1: return search(&v, work, slots, trace, NP_GFP, true);

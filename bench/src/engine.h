@@ -18,6 +18,9 @@ typedef struct {
     uint8_t work[8], deadline[8], gap[8];
 } Table;
 
+/* What puts jobs in order by time left or by slack, the smaller first: of equal times the greater age P - p (document 02, §4). */
+static inline int order(int time, int age) { return 256 * time - age; }
+
 /* 0, or the refusal 1 to 8 of a sheet's bytes. */
 int read_sheet(const uint8_t *sheet, size_t len, Table *t);
 

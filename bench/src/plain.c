@@ -25,7 +25,9 @@ static State release(State s, const Table *t, unsigned mask)
     return s;
 }
 
-static int time_left(const State *s, const Table *t, int i) { return t->deadline[i] - (t->gap[i] - s->p[i]); }
+static int age(const State *s, const Table *t, int i) { return t->gap[i] - s->p[i]; }
+
+static int time_left(const State *s, const Table *t, int i) { return t->deadline[i] - age(s, t, i); }
 
 static unsigned choose(const State *s, const Table *t)
 {
@@ -49,10 +51,10 @@ static unsigned choose(const State *s, const Table *t)
             int first = -1, least = 0;
             for (int i = 0; i < t->n; i++)
                 if (s->c[i] > 0 && !(run >> i & 1)) {
-                    int d = time_left(s, t, i) - (s->c[i] & counted);
-                    if (first < 0 || d < least) {
+                    int place = order(time_left(s, t, i) - (s->c[i] & counted), age(s, t, i));
+                    if (first < 0 || place < least) {
                         first = i;
-                        least = d;
+                        least = place;
                     }
                 }
             if (first < 0) break;

@@ -1,8 +1,7 @@
 /* A native search with each tick in vector instructions (eight lanes of 16 bits), an open-addressing table of slot numbers beside
    the slots, and successors looked up some places behind the tick that made them, so that their table lines are there by then. */
-#include "engine.h"
+#include "order.h"
 
-#include <immintrin.h>
 #include <string.h>
 
 enum { BEHIND = 16, FEWEST = 1 << 12, MOST = 1 << 21 };
@@ -10,8 +9,8 @@ enum { BEHIND = 16, FEWEST = 1 << 12, MOST = 1 << 21 };
 typedef struct {
     __m128i work, gap, shift; /* shift is D - P */
     __m128i limit;            /* m */
-    __m128i base;             /* what a task's place has from the table: its number, and 8 (D - P) where time orders */
-    __m128i early, least;     /* all ones where time orders; where that time is the slack, and the work left counts too */
+    __m128i base, by_c, by_p; /* a task's key is base + by_c c + by_p p */
+    __m128i lane;
     __m128i keeps;            /* all ones where a started job stays */
     uint8_t tasks;
 } Vectors;
@@ -19,24 +18,26 @@ typedef struct {
 static _Alignas(64) uint32_t index_space[MOST];
 static _Alignas(16) uint16_t lanes_of[256][8];
 
-static Vectors vectors_of(const Table *t)
+static Vectors vectors_of(const Table *t, bool far)
 {
-    _Alignas(16) int16_t work[8], gap[8], shift[8], base[8];
-    bool early = t->policy >= NP_EDF;
+    _Alignas(16) int16_t work[8], gap[8], shift[8], base[8], lane[8];
     for (int i = 0; i < 8; i++) {
         work[i] = t->work[i];
         gap[i] = t->gap[i];
         shift[i] = (int16_t)(t->deadline[i] - t->gap[i]);
-        base[i] = (int16_t)(early ? 8 * shift[i] + i : i);
+        base[i] = base_of(t, i, far);
+        lane[i] = (int16_t)i;
     }
     Vectors v;
     v.work = _mm_load_si128((const __m128i *)work);
     v.gap = _mm_load_si128((const __m128i *)gap);
     v.shift = _mm_load_si128((const __m128i *)shift);
     v.base = _mm_load_si128((const __m128i *)base);
+    v.lane = _mm_load_si128((const __m128i *)lane);
+    bool early = t->policy >= NP_EDF, least = t->policy == P_LST;
+    v.by_c = _mm_set1_epi16((int16_t)(!least ? 0 : far ? -8 : -8 * NEAR));
+    v.by_p = _mm_set1_epi16((int16_t)(!early ? 0 : !least || far ? 8 : 8 * (NEAR + 1)));
     v.limit = _mm_set1_epi16(t->m);
-    v.early = _mm_set1_epi16(early ? -1 : 0);
-    v.least = _mm_set1_epi16(t->policy == P_LST ? -1 : 0);
     v.keeps = _mm_set1_epi16(keeps(t->policy) ? -1 : 0);
     v.tasks = (uint8_t)((1u << t->n) - 1);
     return v;
@@ -45,7 +46,7 @@ static Vectors vectors_of(const Table *t)
 /* c and p of a state after a tick, in 16-bit lanes. */
 typedef struct { __m128i c, p; } Pair;
 
-static inline Pair tick(__m128i c, __m128i p, const Vectors *v, unsigned mask)
+static inline Pair tick(__m128i c, __m128i p, const Vectors *v, unsigned mask, bool far)
 {
     const __m128i zero = _mm_setzero_si128();
     __m128i out = _mm_load_si128((const __m128i *)lanes_of[mask]);
@@ -53,23 +54,11 @@ static inline Pair tick(__m128i c, __m128i p, const Vectors *v, unsigned mask)
     p = _mm_or_si128(p, _mm_and_si128(out, v->gap));
     __m128i ready = _mm_cmpgt_epi16(c, zero);
     __m128i started = _mm_and_si128(v->keeps, _mm_and_si128(ready, _mm_cmpgt_epi16(v->work, c)));
-    /* A place for each task: -1 where it keeps its core, else time left (or slack) times 8 plus number, or the last place where not
-       ready. */
-    __m128i left = _mm_sub_epi16(_mm_and_si128(v->early, p), _mm_and_si128(v->least, c));
-    __m128i place = _mm_add_epi16(_mm_slli_epi16(left, 3), v->base);
-    place = _mm_blendv_epi8(_mm_set1_epi16(0x7FFF), place, ready);
-    place = _mm_or_si128(place, started);
-    __m256i wide = _mm256_broadcastsi128_si256(place), rank = _mm256_setzero_si256();
-#define TWO(j)                                                                                                    \
-    rank = _mm256_sub_epi16(rank, _mm256_cmpgt_epi16(wide, _mm256_shuffle_epi8(wide, _mm256_set_m128i(             \
-               _mm_set1_epi16((2 * (j) + 3) << 8 | (2 * (j) + 2)), _mm_set1_epi16((2 * (j) + 1) << 8 | 2 * (j))))))
-    TWO(0);
-    TWO(2);
-    TWO(4);
-    TWO(6);
-#undef TWO
-    __m128i ranks = _mm_add_epi16(_mm256_castsi256_si128(rank), _mm256_extracti128_si256(rank, 1));
-    __m128i run = _mm_and_si128(ready, _mm_cmpgt_epi16(v->limit, ranks));
+    __m128i key = _mm_add_epi16(v->base, _mm_add_epi16(_mm_mullo_epi16(v->by_c, c), _mm_mullo_epi16(v->by_p, p)));
+    if (far) key = _mm_add_epi16(key, age_ranks(p, v->gap, v->lane));
+    /* A place for each task: -1 where it keeps its core, else its key, or the last place where not ready. */
+    __m128i place = _mm_or_si128(_mm_blendv_epi8(_mm_set1_epi16(0x7FFF), key, ready), started);
+    __m128i run = _mm_and_si128(ready, _mm_cmpgt_epi16(v->limit, ranks(place)));
     Pair after = {_mm_add_epi16(c, run), _mm_subs_epu16(p, _mm_set1_epi16(1))};
     return after;
 }
@@ -121,19 +110,9 @@ static size_t grown(const uint8_t *work, size_t size, size_t n)
     return size;
 }
 
-uint64_t simd_verdict(const uint8_t *sheet, size_t sheet_len, uint8_t *work, size_t work_len, uint8_t *trace,
-                      size_t trace_len)
+static inline __attribute__((always_inline)) uint64_t
+search(const Vectors *v, uint8_t *work, size_t slots, uint8_t *trace, bool far)
 {
-    Table t;
-    int refusal = read_sheet(sheet, sheet_len, &t);
-    if (refusal) return packed(0, 0, (uint64_t)refusal);
-    size_t slots = work_len / SLOT < MOST_SLOTS ? work_len / SLOT : MOST_SLOTS;
-    if (slots == 0) return packed(0, 0, 9);
-    if (trace_len < slots) return packed(0, 0, 10);
-    for (int m = 0; m < 256; m++)
-        for (int i = 0; i < 8; i++) lanes_of[m][i] = m >> i & 1 ? 0xFFFF : 0;
-
-    const Vectors v = vectors_of(&t);
     const __m128i low = _mm_set1_epi16(0xFF);
     struct { __m128i state; uint32_t hash, parent, mask; } ring[BEHIND];
     size_t size = FEWEST / 4;
@@ -144,10 +123,10 @@ uint64_t simd_verdict(const uint8_t *sheet, size_t sheet_len, uint8_t *work, siz
         size_t last = n;
         for (size_t i = first; i < last; i++) {
             __m128i s = slot_state(work, i), c = _mm_and_si128(s, low), p = _mm_srli_epi16(s, 8);
-            unsigned free = releasable(p, &v);
-            if (!missed(tick(c, p, &v, free), &v)) continue;
+            unsigned free = releasable(p, v);
+            if (!missed(tick(c, p, v, free, far), v)) continue;
             for (unsigned mask = 0;; mask = (mask - free) & free)
-                if (missed(tick(c, p, &v, mask), &v)) {
+                if (missed(tick(c, p, v, mask, far), v)) {
                     write_trace(work, trace, level + 1, i, (uint8_t)mask);
                     return packed(2, level + 1, n);
                 }
@@ -155,10 +134,10 @@ uint64_t simd_verdict(const uint8_t *sheet, size_t sheet_len, uint8_t *work, siz
         size_t made = 0, done = 0, i = first;
         bool more = i < last;
         __m128i s = slot_state(work, i), c = _mm_and_si128(s, low), p = _mm_srli_epi16(s, 8);
-        unsigned free = releasable(p, &v), mask = 0;
+        unsigned free = releasable(p, v), mask = 0;
         while (more || done < made) {
             if (more) {
-                __m128i after = joined(tick(c, p, &v, mask));
+                __m128i after = joined(tick(c, p, v, mask, far));
                 uint32_t hash = mixed(after);
                 _mm_prefetch((const char *)&index_space[hash & (size - 1)], _MM_HINT_T0);
                 size_t at = made++ % BEHIND;
@@ -172,7 +151,7 @@ uint64_t simd_verdict(const uint8_t *sheet, size_t sheet_len, uint8_t *work, siz
                     s = slot_state(work, more ? i : 0);
                     c = _mm_and_si128(s, low);
                     p = _mm_srli_epi16(s, 8);
-                    free = releasable(p, &v);
+                    free = releasable(p, v);
                 }
                 if (made - done < BEHIND && more) continue;
             }
@@ -195,4 +174,20 @@ uint64_t simd_verdict(const uint8_t *sheet, size_t sheet_len, uint8_t *work, siz
         if (n == last) return packed(1, 0, n);
         first = last;
     }
+}
+
+uint64_t simd_verdict(const uint8_t *sheet, size_t sheet_len, uint8_t *work, size_t work_len, uint8_t *trace,
+                      size_t trace_len)
+{
+    Table t;
+    int refusal = read_sheet(sheet, sheet_len, &t);
+    if (refusal) return packed(0, 0, (uint64_t)refusal);
+    size_t slots = work_len / SLOT < MOST_SLOTS ? work_len / SLOT : MOST_SLOTS;
+    if (slots == 0) return packed(0, 0, 9);
+    if (trace_len < slots) return packed(0, 0, 10);
+    for (int m = 0; m < 256; m++)
+        for (int i = 0; i < 8; i++) lanes_of[m][i] = m >> i & 1 ? 0xFFFF : 0;
+    bool far = is_far(&t);
+    const Vectors v = vectors_of(&t, far);
+    return far ? search(&v, work, slots, trace, true) : search(&v, work, slots, trace, false);
 }
