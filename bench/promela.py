@@ -27,10 +27,14 @@ def started(i, work):
 
 
 def earlier(policy, tasks, j, i):
-    """Whether job j comes before job i: less time left D - P + p, or under 4 less slack, which takes c off, then the lower number."""
+    """Whether job j comes before job i (document 02, §4): less time left D - P + p, or under 4 less slack, which takes c off; then
+    the greater age P - p; then the lower number. With equal time left the age is greater where D is; under 4 the compared number is 256
+    times the slack, less the age."""
     (_, dj, gj), (_, di, gi) = tasks[j], tasks[i]
-    worki, workj = (f" + c[{i}]", f" + c[{j}]") if policy == 4 else ("", "")
-    return f"p[{j}] + {dj + gi}{worki} {'<=' if j < i else '<'} p[{i}] + {di + gj}{workj}"
+    if policy == 4:
+        sign = "<=" if j < i else "<"
+        return f"257 * p[{j}] + 256 * c[{i}] + {256 * (dj + gi) + gi} {sign} 257 * p[{i}] + 256 * c[{j}] + {256 * (di + gj) + gj}"
+    return f"p[{j}] + {dj + gi} {'<=' if (-dj, j) < (-di, i) else '<'} p[{i}] + {di + gj}"
 
 
 def choice(policy, m, tasks, keeps):
