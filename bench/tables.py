@@ -18,13 +18,13 @@ DOCUMENT = [
     document(5, 0, (SAFE, 0, 23881)),
     document(5, 1, (SAFE, 0, 23800)),
     document(5, 2, (SAFE, 0, 23881)),
-    document(5, 3, (SAFE, 0, 23871)),
-    document(5, 4, (SAFE, 0, 23760)),
+    document(5, 3, (SAFE, 0, 23885)),
+    document(5, 4, (SAFE, 0, 23776)),
     document(6, 0, (SAFE, 0, 435379)),
     document(6, 1, (UNSAFE, 14, 397270)),
-    document(6, 2, (SAFE, 0, 435357)),
-    document(6, 3, (SAFE, 0, 428229)),
-    document(6, 4, (SAFE, 0, 402475)),
+    document(6, 2, (SAFE, 0, 435106)),
+    document(6, 3, (SAFE, 0, 427413)),
+    document(6, 4, (SAFE, 0, 406235)),
 ]
 
 
