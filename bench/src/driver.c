@@ -1,7 +1,6 @@
 /* Times the engines on one sheet: driver FIRST HEX. Each engine is lent the same work and trace space of 1,000,000 slots, touched
    before, and called until a fixed share of time has passed, in turn from the engine numbered FIRST on; the processor time of a
-   call is printed in nanoseconds. Every answer, slot and trace is checked first; a disagreement ends the program. An earlier
-   library may refuse the policy that came after it, and has null in place of its time. */
+   call is printed in nanoseconds. Every answer, slot and trace is checked first; a disagreement ends the program. */
 #include "timing.h"
 
 enum { WORK = SLOT * MOST_SLOTS, FILL = 0xA5 };
@@ -41,15 +40,6 @@ static uint64_t digest(size_t n)
     return sum;
 }
 
-/* The bytes after the first slots and after the trace's first masks. */
-static void check_later(const char *name, size_t slots, size_t length)
-{
-    for (size_t i = SLOT * slots; i < WORK; i++)
-        if (work[i] != FILL) fail(name, "later work bytes changed");
-    for (size_t i = length; i < MOST_SLOTS; i++)
-        if (trace[i] != FILL) fail(name, "later trace bytes changed");
-}
-
 static void check(const char *name, const Table *t, uint64_t answer)
 {
     size_t kind = answer >> 48, length = answer >> 24 & 0xFFFFFF, n = answer & 0xFFFFFF;
@@ -64,7 +54,10 @@ static void check(const char *name, const Table *t, uint64_t answer)
         if (parent >= i || at[21] || at[22] || at[23]) fail(name, "slot not formed");
         if (step(t, work + SLOT * parent, at[20], to) != 0 || memcmp(to, at, 16) != 0) fail(name, "slot rule broken");
     }
-    check_later(name, n, length);
+    for (size_t i = SLOT * n; i < WORK; i++)
+        if (work[i] != FILL) fail(name, "later work bytes changed");
+    for (size_t i = length; i < MOST_SLOTS; i++)
+        if (trace[i] != FILL) fail(name, "later trace bytes changed");
     uint8_t s[24] = {0}, to[16];
     for (size_t i = 0; i < length; i++) {
         if (step(t, s, trace[i], to) != (i + 1 == length)) fail(name, "trace does not replay");
@@ -81,20 +74,10 @@ static uint64_t first_call(Verdict *verdict)
     return call(verdict);
 }
 
-/* Whether an earlier library gives the refusal of the policy that came after it. */
-static bool refused(int e, const Table *t, uint64_t mine)
-{
-    return strcmp(engines[e].name, "before") == 0 && t->policy == P_LST && mine == packed(0, 0, 4);
-}
-
-/* The time of an engine's call after one that is checked beside the answer and states of the others, or -1 where it is refused. */
+/* The time of an engine's call after one that is checked beside the answer and states of the others. */
 static double checked(int e, const Table *t, uint64_t answer, uint64_t states)
 {
     uint64_t mine = first_call(engines[e].call), free_choice = answer >> 48 == 3;
-    if (refused(e, t, mine)) {
-        check_later(engines[e].name, 0, 0);
-        return -1;
-    }
     if (mine != answer) fail(engines[e].name, "another answer than the others");
     check(engines[e].name, t, mine);
     if (!free_choice && digest(mine & 0xFFFFFF) != states) fail(engines[e].name, "other states than the others");
@@ -134,9 +117,7 @@ int main(int argc, char **argv)
            (unsigned long long)store_ticks);
     for (int k = 0; k < ENGINES; k++) {
         int e = (k + first) % ENGINES;
-        printf("%s\"%s\":", k ? "," : "", engines[e].name);
-        if (once[e] >= 0) printf("%.0f", timed(e, once[e], answer));
-        else printf("null");
+        printf("%s\"%s\":%.0f", k ? "," : "", engines[e].name, timed(e, once[e], answer));
     }
     printf("}}\n");
     return 0;
