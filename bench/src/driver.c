@@ -1,20 +1,21 @@
 /* Times the engines on one sheet: driver FIRST HEX. Each engine is lent the same work and trace space of 1,000,000 slots, touched
    before, and called until a fixed share of time has passed, in turn from the engine numbered FIRST on; the processor time of a
-   call is printed in nanoseconds. Every answer, slot and trace is checked first; a disagreement ends the program. */
+   call is printed in nanoseconds. Every answer, slot and trace is checked first; a disagreement ends the program. An engine agrees
+   with the plain search by_age, the library before with the one that BEFORE names. */
 #include "timing.h"
 
 enum { WORK = SLOT * MOST_SLOTS, FILL = 0xA5 };
 
-static const struct { const char *name; Verdict *call; } engines[] = {
+static const struct { const char *name; Verdict *call; const Counted *like; } engines[] = {
 #ifdef LIBRARY
-    {"library", ronchhek_verdict},
+    {"library", ronchhek_verdict, &by_age},
 #endif
 #ifdef BEFORE
-    {"before", before_verdict},
+    {"before", before_verdict, &BEFORE},
 #endif
-    {"plain", plain_verdict},
-    {"simd", simd_verdict},
-    {"best", best_verdict},
+    {"plain", plain_verdict, &by_age},
+    {"simd", simd_verdict, &by_age},
+    {"best", best_verdict, &by_age},
 };
 enum { ENGINES = sizeof engines / sizeof engines[0] };
 
@@ -40,7 +41,7 @@ static uint64_t digest(size_t n)
     return sum;
 }
 
-static void check(const char *name, const Table *t, uint64_t answer)
+static void check(const char *name, const Counted *like, const Table *t, uint64_t answer)
 {
     size_t kind = answer >> 48, length = answer >> 24 & 0xFFFFFF, n = answer & 0xFFFFFF;
     static const uint8_t start[24];
@@ -52,7 +53,7 @@ static void check(const char *name, const Table *t, uint64_t answer)
         size_t parent = word(at + 16) & 0xFFFFFFFF;
         uint8_t to[16];
         if (parent >= i || at[21] || at[22] || at[23]) fail(name, "slot not formed");
-        if (step(t, work + SLOT * parent, at[20], to) != 0 || memcmp(to, at, 16) != 0) fail(name, "slot rule broken");
+        if (like->step(t, work + SLOT * parent, at[20], to) != 0 || memcmp(to, at, 16) != 0) fail(name, "slot rule broken");
     }
     for (size_t i = SLOT * n; i < WORK; i++)
         if (work[i] != FILL) fail(name, "later work bytes changed");
@@ -60,7 +61,7 @@ static void check(const char *name, const Table *t, uint64_t answer)
         if (trace[i] != FILL) fail(name, "later trace bytes changed");
     uint8_t s[24] = {0}, to[16];
     for (size_t i = 0; i < length; i++) {
-        if (step(t, s, trace[i], to) != (i + 1 == length)) fail(name, "trace does not replay");
+        if (like->step(t, s, trace[i], to) != (i + 1 == length)) fail(name, "trace does not replay");
         memcpy(s, to, 16);
     }
 }
@@ -74,13 +75,31 @@ static uint64_t first_call(Verdict *verdict)
     return call(verdict);
 }
 
-/* The time of an engine's call after one that is checked beside the answer and states of the others. */
-static double checked(int e, const Table *t, uint64_t answer, uint64_t states)
+/* What a plain search with counters tells. */
+typedef struct { uint64_t answer, states, hunt, store; } Told;
+
+static Told told_by(const Counted *like, const Table *t)
 {
-    uint64_t mine = first_call(engines[e].call), free_choice = answer >> 48 == 3;
-    if (mine != answer) fail(engines[e].name, "another answer than the others");
-    check(engines[e].name, t, mine);
-    if (!free_choice && digest(mine & 0xFFFFFF) != states) fail(engines[e].name, "other states than the others");
+    uint64_t answer = first_call(like->verdict);
+    check("counted", like, t, answer);
+    Told told = {answer, digest(answer & 0xFFFFFF), *like->hunt, *like->store};
+    return told;
+}
+
+static void print_told(const Told *told)
+{
+    printf("\"kind\":%d,\"length\":%d,\"count\":%d,\"hunt\":%llu,\"store\":%llu", (int)(told->answer >> 48),
+           (int)(told->answer >> 24 & 0xFFFFFF), (int)(told->answer & 0xFFFFFF), (unsigned long long)told->hunt,
+           (unsigned long long)told->store);
+}
+
+/* The time of an engine's call after one that is checked beside what the plain search told. */
+static double checked(int e, const Table *t, const Told *told)
+{
+    uint64_t mine = first_call(engines[e].call), free_choice = mine >> 48 == 3;
+    if (mine != told->answer) fail(engines[e].name, "another answer than plain");
+    check(engines[e].name, engines[e].like, t, mine);
+    if (!free_choice && digest(mine & 0xFFFFFF) != told->states) fail(engines[e].name, "other states than plain");
     double from = now();
     call(engines[e].call);
     return now() - from;
@@ -107,17 +126,27 @@ int main(int argc, char **argv)
     trace = malloc(MOST_SLOTS);
     if (!work || !trace) fail("driver", "no memory");
 
-    uint64_t answer = first_call(counted_verdict), states = digest(answer & 0xFFFFFF);
-    check("counted", &t, answer);
+    const Told own = told_by(&by_age, &t);
+#ifdef BEFORE
+    const Told before = told_by(&BEFORE, &t);
+#else
+    const Told before = own;
+#endif
+    const Told *told[ENGINES];
     double once[ENGINES];
-    for (int e = 0; e < ENGINES; e++) once[e] = checked(e, &t, answer, states);
+    for (int e = 0; e < ENGINES; e++) {
+        told[e] = engines[e].like == &by_age ? &own : &before;
+        once[e] = checked(e, &t, told[e]);
+    }
 
-    printf("{\"kind\":%d,\"length\":%d,\"count\":%d,\"hunt\":%llu,\"store\":%llu,\"ns\":{", (int)(answer >> 48),
-           (int)(answer >> 24 & 0xFFFFFF), (int)(answer & 0xFFFFFF), (unsigned long long)hunt_ticks,
-           (unsigned long long)store_ticks);
+    printf("{");
+    print_told(&own);
+    printf(",\"before\":{");
+    print_told(&before);
+    printf("},\"ns\":{");
     for (int k = 0; k < ENGINES; k++) {
         int e = (k + first) % ENGINES;
-        printf("%s\"%s\":%.0f", k ? "," : "", engines[e].name, timed(e, once[e], answer));
+        printf("%s\"%s\":%.0f", k ? "," : "", engines[e].name, timed(e, once[e], told[e]->answer));
     }
     printf("}}\n");
     return 0;

@@ -18,8 +18,15 @@ typedef struct {
     uint8_t work[8], deadline[8], gap[8];
 } Table;
 
-/* What puts jobs in order by time left or by slack, the smaller first: of equal times the greater age P - p (document 02, §4). */
-static inline int order(int time, int age) { return 256 * time - age; }
+/* Whether jobs of equal time go by age (document 02, §4), or by task number at once, as in document 01 (One tick). */
+#ifdef TIES_BY_NUMBER
+enum { BY_AGE = 0 };
+#else
+enum { BY_AGE = 1 };
+#endif
+
+/* What puts jobs in order by time left or by slack, the smaller first: of equal times the greater age P - p. */
+static inline int order(int time, int age) { return 256 * time - BY_AGE * age; }
 
 /* 0, or the refusal 1 to 8 of a sheet's bytes. */
 int read_sheet(const uint8_t *sheet, size_t len, Table *t);
@@ -34,11 +41,14 @@ Verdict plain_verdict;    /* plain.c */
 Verdict simd_verdict;     /* simd.c */
 Verdict best_verdict;     /* best.c */
 
-/* plain.c built with counters: ticks of the hunt and of the store in the last call. */
-Verdict counted_verdict;
-extern uint64_t hunt_ticks, store_ticks;
-/* One tick from the 16 bytes of a slot's state: 0 kept, 1 missed, 2 illegal mask. */
-int step(const Table *t, const uint8_t *from, unsigned mask, uint8_t *to);
+/* plain.c built with counters: ticks of the hunt and of the store in the last call; and one tick from the 16 bytes of a slot's
+   state: 0 kept, 1 missed, 2 illegal mask. */
+typedef struct {
+    Verdict *verdict;
+    uint64_t *hunt, *store;
+    int (*step)(const Table *t, const uint8_t *from, unsigned mask, uint8_t *to);
+} Counted;
+extern const Counted by_age, by_number; /* by_number: built with TIES_BY_NUMBER */
 
 static inline uint64_t packed(uint64_t kind, uint64_t length, uint64_t count)
 {

@@ -1,13 +1,14 @@
 /* The library's design in plain scalar C: chains through the slots' spare bytes, 262,144 heads, the library's hash, legal masks
-   only, and the full mask of a slot tried first in the hunt. The tick goes task by task, and the heads have no tags. Built a second
-   time with COUNT for the ticks of each pass. */
+   only, and the full mask of a slot tried first in the hunt. The tick goes task by task, and the heads have no tags. Built again
+   with COUNT, the name that the build with counters has in engine.h. */
 #include "engine.h"
 
 #include <string.h>
 
 #ifdef COUNT
 #define plain_verdict counted_verdict
-uint64_t hunt_ticks, store_ticks;
+static Verdict counted_verdict;
+static uint64_t hunt_ticks, store_ticks;
 #define TICKED(counter) (counter)++
 #else
 #define TICKED(counter) (void)0
@@ -185,18 +186,6 @@ static uint64_t search(const Table *t, uint8_t *work, size_t slots, uint8_t *tra
     }
 }
 
-#ifdef COUNT
-int step(const Table *t, const uint8_t *from, unsigned mask, uint8_t *to)
-{
-    State s = load(from, 0);
-    if (mask & ~releasable(&s, t)) return 2;
-    s = tick(s, t, mask);
-    Bytes b = bytes_of(&s);
-    memcpy(to, b.b, 16);
-    return missed(&s, t);
-}
-#endif
-
 uint64_t plain_verdict(const uint8_t *sheet, size_t sheet_len, uint8_t *work, size_t work_len, uint8_t *trace,
                        size_t trace_len)
 {
@@ -215,3 +204,17 @@ uint64_t plain_verdict(const uint8_t *sheet, size_t sheet_len, uint8_t *work, si
     for (size_t i = 0, n = answer & 0xFFFFFF; i < n; i++) memset(work + SLOT * i + 21, 0, 3);
     return answer;
 }
+
+#ifdef COUNT
+static int step(const Table *t, const uint8_t *from, unsigned mask, uint8_t *to)
+{
+    State s = load(from, 0);
+    if (mask & ~releasable(&s, t)) return 2;
+    s = tick(s, t, mask);
+    Bytes b = bytes_of(&s);
+    memcpy(to, b.b, 16);
+    return missed(&s, t);
+}
+
+const Counted COUNT = {counted_verdict, &hunt_ticks, &store_ticks, step};
+#endif
