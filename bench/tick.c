@@ -1,86 +1,22 @@
-/* A native tick of the same rules, unproved, beside the proved one: both run on the same tables, states and masks, must
-   give the same sum, and are timed in turn. Prints the nanoseconds of each and the ratio for every policy and number of
-   processors, six tasks. With -DBEFORE an earlier proved one, under the name before_ticks, runs in turn with them, but not
-   under policy 4, which it may be from before. */
-#include <stdint.h>
+/* The native tick of src/native.c beside the proved one: both run on the same tables, states and masks, must give the same
+   sum, and are timed in turn. Prints the nanoseconds of each and the ratio for every policy and number of processors, six tasks.
+   With BEFORE an earlier proved one, under the name before_ticks, runs in turn with them: it gives the sum of the native ticks that
+   BEFORE names. */
+#include "src/engine.h"
+
 #include <stdio.h>
-#include <stdlib.h>
 #include <string.h>
 #include <time.h>
 
-typedef struct { uint8_t policy, m, n, work[8], deadline[8], gap[8]; } table;
-typedef struct { uint8_t c[8], p[8]; } state;
+typedef struct { uint8_t c[8], p[8]; } State;
 
 /* The proved library: crates/ticks. */
-uint64_t ticks(const uint8_t *table, size_t table_len, const uint8_t *states, size_t states_len, const uint8_t *masks, size_t masks_len);
-#ifdef BEFORE
-uint64_t before_ticks(const uint8_t *table, size_t table_len, const uint8_t *states, size_t states_len, const uint8_t *masks, size_t masks_len);
-#endif
+typedef uint64_t Ticks(const uint8_t *table, size_t table_len, const uint8_t *states, size_t states_len, const uint8_t *masks, size_t masks_len);
+Ticks ticks, before_ticks;
 
-static int time_left(const table *t, const state *s, int i) { return t->deadline[i] - (t->gap[i] - s->p[i]); }
-
-static int slack(const table *t, const state *s, int i) { return time_left(t, s, i) - s->c[i]; }
-
-/* One tick; whether some job is late after it. */
-static int tick(const table *t, state *s, unsigned mask) {
-    int n = t->n, left = t->m, late = 0;
-    uint8_t run[8] = {0};
-    for (int i = 0; i < n; i++)
-        if (mask >> i & 1) {
-            s->c[i] = t->work[i];
-            s->p[i] = t->gap[i];
-        }
-    if (t->policy == 0 || t->policy == 2)
-        for (int i = 0; i < n; i++)
-            if (s->c[i] && s->c[i] < t->work[i]) {
-                run[i] = 1;
-                left--;
-            }
-    if (t->policy < 2) {
-        for (int i = 0; i < n && left > 0; i++)
-            if (s->c[i] && !run[i]) {
-                run[i] = 1;
-                left--;
-            }
-    } else {
-        while (left > 0) {
-            int best = -1, least = 0;
-            for (int i = 0; i < n; i++)
-                if (s->c[i] && !run[i]) {
-                    int d = t->policy == 4 ? slack(t, s, i) : time_left(t, s, i);
-                    if (best < 0 || d < least) {
-                        best = i;
-                        least = d;
-                    }
-                }
-            if (best < 0) break;
-            run[best] = 1;
-            left--;
-        }
-    }
-    for (int i = 0; i < n; i++) {
-        s->c[i] -= run[i];
-        s->p[i] -= s->p[i] > 0;
-        late |= s->c[i] > 0 && slack(t, s, i) < 0;
-    }
-    return late;
-}
-
-__attribute__((noinline)) static uint64_t native(const uint8_t *bytes, const uint8_t *states, const uint8_t *masks, size_t count) {
-    table t;
-    memcpy(&t, bytes, 27);
-    uint64_t sum = 0;
-    for (size_t k = 0; k < count; k++) {
-        state s;
-        uint64_t c, p;
-        memcpy(&s, states + 16 * k, 16);
-        int late = tick(&t, &s, masks[k]);
-        memcpy(&c, s.c, 8);
-        memcpy(&p, s.p, 8);
-        sum += c + p + (uint64_t)late;
-    }
-    return sum;
-}
+/* src/native.c, as it is and built with TIES_BY_NUMBER. */
+typedef uint64_t Native(const uint8_t *table, const uint8_t *states, const uint8_t *masks, size_t count);
+Native native, native_by_number;
 
 enum { PAIRS = 4096, ROUNDS = 40, TRIES = 25 };
 
@@ -91,7 +27,7 @@ static unsigned draw(unsigned below) {
 }
 
 /* A proper state: slack 0 or more for every job, and at most m started jobs. */
-static void proper(const table *t, state *s) {
+static void proper(const Table *t, State *s) {
     int started = 0;
     memset(s, 0, 16);
     for (int i = 0; i < t->n; i++) {
@@ -114,18 +50,18 @@ static double now(void) {
 }
 
 /* The engines in turn: the proved ticks, the native ones and, where there are any, the earlier proved ones. */
-enum { NATIVE = 1,
+enum { PROVED, NATIVE, EARLIER,
 #ifdef BEFORE
-       ENGINES = 3
+       ENGINES = EARLIER + 1
 #else
-       ENGINES = 2
+       ENGINES = EARLIER
 #endif
 };
 
 static uint64_t run(int engine, const uint8_t *bytes, const uint8_t *states, const uint8_t *masks) {
     if (engine == NATIVE) return native(bytes, states, masks, PAIRS);
 #ifdef BEFORE
-    if (engine == 2) return before_ticks(bytes, 27, states, 16 * PAIRS, masks, PAIRS);
+    if (engine == EARLIER) return before_ticks(bytes, 27, states, 16 * PAIRS, masks, PAIRS);
 #endif
     return ticks(bytes, 27, states, 16 * PAIRS, masks, PAIRS);
 }
@@ -136,9 +72,8 @@ int main(void) {
     double worst = 0, slower = 0;
     for (int policy = 0; policy <= 4; policy++)
         for (int k = 0; k < 5; k++) {
-            int engines = policy < 4 ? ENGINES : 2;
             uint8_t bytes[27] = {(uint8_t)policy, (uint8_t)cores[k], 6};
-            table t;
+            Table t;
             for (int i = 0; i < 6; i++) {
                 bytes[3 + i] = (uint8_t)(1 + draw(6));
                 bytes[11 + i] = (uint8_t)(bytes[3 + i] + draw(12));
@@ -146,7 +81,7 @@ int main(void) {
             }
             memcpy(&t, bytes, 27);
             for (int j = 0; j < PAIRS; j++) {
-                state s;
+                State s;
                 unsigned legal = 0;
                 proper(&t, &s);
                 for (int i = 0; i < 6; i++)
@@ -154,30 +89,34 @@ int main(void) {
                 memcpy(states + 16 * j, &s, 16);
                 masks[j] = (uint8_t)(draw(64) & legal);
             }
-            double best[3];
+            double best[EARLIER + 1];
             volatile uint64_t sink = 0;
-            for (int e = 0; e < engines; e++) {
+            for (int e = 0; e < ENGINES; e++) {
+                uint64_t sum = native(bytes, states, masks, PAIRS);
+#ifdef BEFORE
+                if (e == EARLIER) sum = BEFORE(bytes, states, masks, PAIRS);
+#endif
                 best[e] = 1e18;
-                if (run(e, bytes, states, masks) != run(NATIVE, bytes, states, masks)) {
+                if (run(e, bytes, states, masks) != sum) {
                     printf("policy %d m %d: the sums differ\n", policy, cores[k]);
                     return 1;
                 }
             }
             for (int try = 0; try < TRIES; try++)
-                for (int e = 0; e < engines; e++) {
+                for (int e = 0; e < ENGINES; e++) {
                     double a = now();
                     for (int r = 0; r < ROUNDS; r++) sink += run(e, bytes, states, masks);
                     double b = now();
                     if (b - a < best[e]) best[e] = b - a;
                 }
             double each = (double)PAIRS * ROUNDS;
-            printf("policy %d m %d: proved %5.1f ns, native %5.1f ns, ratio %.2f", policy, cores[k], best[0] / each, best[NATIVE] / each, best[0] / best[NATIVE]);
-            if (engines > 2) printf("; before %5.1f ns, ratio %.2f", best[2] / each, best[0] / best[2]);
+            printf("policy %d m %d: proved %5.1f ns, native %5.1f ns, ratio %.2f", policy, cores[k], best[PROVED] / each, best[NATIVE] / each, best[PROVED] / best[NATIVE]);
+            if (ENGINES > EARLIER) printf("; before %5.1f ns, ratio %.2f", best[EARLIER] / each, best[PROVED] / best[EARLIER]);
             printf("\n");
-            if (best[0] / best[NATIVE] > worst) worst = best[0] / best[NATIVE];
-            if (engines > 2 && best[0] / best[2] > slower) slower = best[0] / best[2];
+            if (best[PROVED] / best[NATIVE] > worst) worst = best[PROVED] / best[NATIVE];
+            if (ENGINES > EARLIER && best[PROVED] / best[EARLIER] > slower) slower = best[PROVED] / best[EARLIER];
         }
     printf("worst ratio %.2f\n", worst);
-    if (ENGINES > 2) printf("worst ratio to before %.2f\n", slower);
+    if (ENGINES > EARLIER) printf("worst ratio to before %.2f\n", slower);
     return 0;
 }
