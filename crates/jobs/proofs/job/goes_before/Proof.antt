@@ -13,7 +13,7 @@ lex-requires-2 c κs = search needs
 returns : tie.Need-returns
 returns c =
     let f = c .before .before .fits in
-    rw (c .lex2 .ensures, c .before .lex .ensures, toZ-ofZ w16 _ (f .a), toZ-ofZ w16 _ (f .b), toZ-ofZ w16 _ (f .x), toZ-ofZ w16 _ (f .y))
+    simp (c .lex2 .ensures, c .before .lex .ensures, toZ-ofZ w16 _ (f .a), toZ-ofZ w16 _ (f .b), toZ-ofZ w16 _ (f .x), toZ-ofZ w16 _ (f .y))
 
 pub goes-before-spec : {M : Type 1} → statement M
 goes-before-spec = tie.close (tie.spec lex-requires lex-requires-2 returns)
