@@ -122,20 +122,20 @@ module _ (places : List ℕ) (m : ℕ) where
         most = omega (arith, most-all);
       }
 
-  all-served : (c : ℕ) → readyCount places ≤ c → eight (λ i. pick (under places 65535 i) 1 0) ≡ served places c
+  all-served : (c : ℕ) → readyCount places ≤ c → eight (λ i. pick (under places 65534 i) 1 0) ≡ served places c
   unfolding served
   all-served c l =
-      eight-same (λ i. pick (under places 65535 i) 1 0) (λ i. pick (taken places c i) 1 0)
+      eight-same (λ i. pick (under places 65534 i) 1 0) (λ i. pick (taken places c i) 1 0)
       (λ i h. ap (λ b. pick b 1 0) (sym (all-taken places c i h l)))
 
   -- LAW: a step that gives all that wait a processor
   pub walk-rest :
-      {run : List ℕ} {c : ℕ} → run ≡ eight (λ i. pick (under places 65535 i) 1 0) → c ≡ readyCount places → c ≤ m → Walked places m run c
+      {run : List ℕ} {c : ℕ} → run ≡ eight (λ i. pick (under places 65534 i) 1 0) → c ≡ readyCount places → c ≤ m → Walked places m run c
   unfolding readyCount
   walk-rest {run} {c} r e l =
       record {
         first = r ∙ all-served c (omega arith);
-        number = e ∙ sym (tasks-tested (under places 65535)) ∙ ap tasksIn (sym r);
+        number = e ∙ sym (tasks-tested (under places 65534)) ∙ ap tasksIn (sym r);
         most = omega (arith, most-all);
       }
 

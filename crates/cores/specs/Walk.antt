@@ -1,5 +1,5 @@
 -- The choice of the running tasks by one number a task, its place, and the walk that makes it: it gives the processors out one after the other
--- and carries their number ("cores handed out", document 02, §2). A place is 0 where the task's job keeps its processor and 65535 where
+-- and carries their number ("cores handed out", document 02, §2). A place is 0 where the task's job keeps its processor and 65534 or 65535 where
 -- it has none; of the others the smaller goes first, and of equal ones that of the smaller task number. No part of the paper's model: proofs/Place.antt of `tasks`
 -- shows that the places of a state give the choice of its Tick.antt.
 use Prim.Native.Nat.{ℕ, _≤_}
@@ -14,9 +14,13 @@ use Rattle.lists.specs.Lists.{eight, pick, count}
 unfoldable pub under : List ℕ → ℕ → ℕ → Bool
 under places x k = ltb (getD places k 0) x
 
+-- a place as the order takes it: the two of no job are alike
+abbrev pub capped : ℕ → ℕ
+capped y = pick (ltb y 65534) y 65534
+
 -- a task with place y and number k goes before one with place x and number i
-abbrev pub sooner : ℕ → ℕ → ℕ → ℕ → Bool
-sooner y k x i = ltb y x || (eqb y x && ltb k i)
+unfoldable pub sooner : ℕ → ℕ → ℕ → ℕ → Bool
+sooner y k x i = ltb (capped y) (capped x) || (eqb (capped y) (capped x) && ltb k i)
 
 -- task k goes before task i
 unfoldable pub leads : List ℕ → ℕ → ℕ → Bool
@@ -32,11 +36,11 @@ keptCount places = count 8 (under places 1)
 
 -- how many jobs are ready, those that keep their processors among them
 unfoldable pub readyCount : List ℕ → ℕ
-readyCount places = count 8 (under places 65535)
+readyCount places = count 8 (under places 65534)
 
 -- task i is one of those chosen with c processors: it is ready, and its job keeps its processor or has fewer than c tasks before it
 unfoldable pub taken : List ℕ → ℕ → ℕ → Bool
-taken places c i = under places 65535 i && (under places 1 i || ltb (rank places 8 i) c)
+taken places c i = under places 65534 i && (under places 1 i || ltb (rank places 8 i) c)
 
 -- the tasks chosen with c processors: 1 for each, 0 for the others
 unfoldable pub served : List ℕ → ℕ → List ℕ

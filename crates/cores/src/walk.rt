@@ -5,7 +5,7 @@ ghost use lib.ListN.{getD};
 ghost use mathlib.Core.Bool.{_&&_};
 ghost use lib.Dec.{eqb};
 ghost use Rattle.lists.specs.Lists.{eight, pick, count};
-ghost use Rattle.cores.specs.Walk.{under, sooner, rank, keptCount, readyCount, served, Walked};
+ghost use Rattle.cores.specs.Walk.{under, capped, sooner, rank, keptCount, readyCount, served, Walked};
 
 // A walk on its way: 1 for each task that has been given a processor and 0 for the others, and how many have been given out.
 struct Walk {
@@ -39,11 +39,18 @@ fn below(places: [u16; 8], x: u16) -> [u16; 8]
     out
 }
 
-// Whether a task with place y and number k goes before one with place x and number i.
+// One more than a place, of which those from 65534 on are alike.
+fn above(place: u16) -> u16
+    ensures { λ r. ⌜ r ≡ capped place + 1 ⌝ }
+{
+    if place < 65535 { place + 1 } else { 65535 }
+}
+
+// Whether a task with place y and number k goes before one with place x and number i. In this form a rank takes the compiler one comparison.
 fn sooner(y: u16, k: usize, x: u16, i: usize) -> bool
     ensures { λ r. ⌜ r ≡ sooner y k x i ⌝ }
 {
-    (y < x) | ((y == x) & (k < i))
+    above(y) - ((k < i) as u16) < above(x)
 }
 
 // How many tasks go before task i.
@@ -154,7 +161,7 @@ fn assign_rest(places: [u16; 8], m: u16, waiting: u16, walk: Walk) -> Walk
 {
     let count = walk.count;
     Walk {
-        run: below(places, 65535),
+        run: below(places, 65534),
         count: count + waiting,
     }
 }
@@ -164,7 +171,7 @@ pub fn assign(places: [u16; 8], m: u16) -> [u16; 8]
     ensures { λ r. ⌜ r ≡ served places m ⌝ }
 {
     let ranks = ranks_singly(places);
-    let ready = count_below(places, 65535);
+    let ready = count_below(places, 65534);
     let mut walk = assign_kept(places, m);
     while (walk.count < m) & (walk.count < ready) {
         let next = assign_next(places, ranks, m, walk);
@@ -180,7 +187,7 @@ pub fn assign_quickly(places: [u16; 8], m: u16) -> [u16; 8]
 {
     let start = assign_kept(places, m);
     let count = start.count;
-    let waiting = count_below(places, 65535) - count;
+    let waiting = count_below(places, 65534) - count;
     if count + waiting <= m {
         let all = assign_rest(places, m, waiting, start);
         return all.run;

@@ -106,8 +106,8 @@ module _ (policy d g p c : ℕ) (t : InTime d g p c) where
       rw (e, le-ltb policy 2 (omega (arith, ltb-false policy 4 e)), bits-all p (omega (arith, t)), bits-all c (omega (arith, t)))
       (settled (p * 257) (256 * d + 255) (257 * g) (c * 256) ((d + p - (g + c)) * 256 + (255 - (g - p))) (omega (arith, t)) (omega (arith, t)) (omega (arith, t)) (omega (arith, t))))
 
-  -- LAW: it is above 0 and below 65535
-  pub place-range : (0 < jobPlace policy d g p c) × (jobPlace policy d g p c < 65535)
+  -- LAW: it is above 0 and below 65534
+  pub place-range : (0 < jobPlace policy d g p c) × (jobPlace policy d g p c < 65534)
   place-range = (omega (arith, place-in, age-most), omega (arith, place-in, key-most))
 
 -- LAW: of two jobs in time the smaller key has the smaller place, and of equal keys the greater age

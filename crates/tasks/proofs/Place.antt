@@ -18,6 +18,7 @@ use Rattle.lists.proofs.Fill.{eight-at, eight-same}
 use Rattle.lists.proofs.Bools.{by-bool}
 use Rattle.lists.proofs.Counts.{count-same}
 use Rattle.lists.proofs.Turns.{count-le}
+use Rattle.cores.proofs.RankLaws.{sooner-some}
 use Rattle.tasks.proofs.Order.{fewer-before}
 use Rattle.tasks.proofs.Choice.{in-order}
 
@@ -31,8 +32,13 @@ pub record Waits (t : Table) (s : State) (i : ℕ) : Type 0 where
 pub record Placed (t : Table) (s : State) (places : List ℕ) : Type 0 where
   pub none : (i : ℕ) → i < 8 → ready s i ≡ false → getD places i 0 ≡ 65535
   pub kept : (i : ℕ) → i < 8 → ready s i ≡ true → keeps t s i ≡ true → getD places i 0 ≡ 0
-  pub some : (i : ℕ) → Waits t s i → (0 < getD places i 0) × (getD places i 0 < 65535)
+  pub some : (i : ℕ) → Waits t s i → (0 < getD places i 0) × (getD places i 0 < 65534)
   pub order : (j i : ℕ) → Waits t s j → Waits t s i → sooner (getD places j 0) j (getD places i 0) i ≡ before t s j i
+
+-- a task with no job goes before none that has one
+sooner-none : (j x i : ℕ) → x < 65534 → sooner 65535 j x i ≡ false
+unfolding sooner
+sooner-none j x i h = rw (lt-ltb x 65534 h, le-ltb 65534 x (omega arith), ne-eqb 65534 x (λ e. omega arith))
 
 -- ---- the choice by any such places
 
@@ -45,10 +51,10 @@ module _ (t : Table) (s : State) (places : List ℕ) (placed : Placed t s places
       by-bool (ready s j)
       (λ y.
       by-bool (keeps t s j)
-      (λ z. rw (placed .kept j h y z, y, z, lt-ltb 0 x (placed .some i w .0)))
+      (λ z. rw (placed .kept j h y z, y, z) (sooner-some 0 j x i (omega arith) (placed .some i w .1) ∙ rw (lt-ltb 0 x (placed .some i w .0))))
       (λ z. rw (y, z) (placed .order j i (record { small = h; has = y; free = z }) w)))
       (λ y.
-      rw (placed .none j h y, y, le-ltb 65535 x (omega (arith, placed .some i w)), ne-eqb 65535 x (λ e. omega (arith, placed .some i w))))
+      rw (placed .none j h y, y) (sooner-none j x i (placed .some i w .1)))
 
   counted : (i : ℕ) → Waits t s i → rank places 8 i ≡ count 8 (ahead t s i)
   unfolding rank
@@ -63,7 +69,7 @@ module _ (t : Table) (s : State) (places : List ℕ) (placed : Placed t s places
       (λ e. rw (placed .kept i h r e, r, e))
       (λ e.
       let w : Waits t s i = record { small = h; has = r; free = e } in
-      rw (counted i w, r, e, lt-ltb (getD places i 0) 65535 (placed .some i w .1), le-ltb (getD places i 0) 1 (placed .some i w .0))))
+      rw (counted i w, r, e, lt-ltb (getD places i 0) 65534 (placed .some i w .1), le-ltb (getD places i 0) 1 (placed .some i w .0))))
       (λ r. rw (placed .none i h r, r))
 
   -- LAW: the tasks taken by their places are those that run
@@ -107,12 +113,17 @@ module _ (t : Table) (s : State) where
   unfolding earlier
   earlier-less j i h e = fewer-before (before t s) (in-order t s) 8 j i h e
 
+  earlier-most : (i : ℕ) → earlier t s i < 9
+  unfolding earlier
+  earlier-most i = omega (arith, count-le (λ j. before t s j i) 8)
+
   -- how many go before tells two tasks apart as the order does
   sooner-earlier : (j i : ℕ) → j < 8 → i < 8 → sooner (suc (earlier t s j)) j (suc (earlier t s i)) i ≡ before t s j i
   sooner-earlier j i h k =
       let y = suc (earlier t s j) in
       let x = suc (earlier t s i) in
-      by-bool (before t s j i)
+      sooner-some y j x i (omega (arith, earlier-most j)) (omega (arith, earlier-most i))
+      ∙ by-bool (before t s j i)
       (λ e. rw (e, lt-ltb y x (omega (arith, earlier-less j i h e))))
       (λ e. elim (ℕ-discrete j i) [
         | yes q ↦ rw (e, q, le-ltb x x (omega arith), eq-eqb x x (omega arith), le-ltb i i (omega arith))
@@ -120,10 +131,6 @@ module _ (t : Table) (s : State) where
             let l = earlier-less i j k (in-order t s .total j i d e) in
             rw (e, le-ltb y x (omega arith), ne-eqb y x (λ z. omega arith))
       ])
-
-  earlier-most : (i : ℕ) → earlier t s i < 9
-  unfolding earlier
-  earlier-most i = omega (arith, count-le (λ j. before t s j i) 8)
 
   -- LAW: these places stand in the order of the jobs, for any state
   pub places-placed : Placed t s (eight (place t s))

@@ -15,6 +15,7 @@ use Rattle.jobs.specs.Job.{lex}
 use Rattle.jobs.specs.Place.{gapMask, workMask}
 use Rattle.jobs.proofs.Places.{InTime, jobPlace, place-less, place-range}
 use Rattle.cores.specs.Walk.{sooner, taken}
+use Rattle.cores.proofs.RankLaws.{sooner-some}
 use Rattle.tasks.specs.Table.{tableFault}
 use Rattle.tasks.specs.State.{start, notPreempted, ready, started, keeps, improper}
 use Rattle.tasks.specs.Tick.{bit, released, key, age, before, runs, chosen, ranAt, fallen, ran, after}
@@ -103,9 +104,10 @@ three false true x y n = refl
 three false false x y n = refl
 
 -- a place goes before another where it is smaller, or is not greater and its task's number is smaller
-sooner-less : (y k x i : ℕ) → sooner y k x i ≡ (ltb y x || (not (ltb x y) && ltb k i))
-sooner-less y k x i =
-    by-bool (ltb y x) (λ e. rw e)
+sooner-less : (y k x i : ℕ) → y < 65534 → x < 65534 → sooner y k x i ≡ (ltb y x || (not (ltb x y) && ltb k i))
+sooner-less y k x i h l =
+    sooner-some y k x i h l
+    ∙ by-bool (ltb y x) (λ e. rw e)
     (λ e.
     elim (ℕ-discrete y x) [
       | yes q ↦ rw (e, eq-eqb y x q, le-ltb x y (omega arith))
@@ -146,21 +148,21 @@ module _ (t : Table) (s : State) (mask : ℕ) (valid : tableFault t ≡ 0) (prop
       (getD (t .deadline) i 0) (getD (t .gap) i 0) (getD (after-release .p) i 0) (getD (after-release .c) i 0)
       (in-time j (w .small) (w .has)) (in-time i (x .small) (x .has))
 
+  job-range : (i : ℕ) → Waits t after-release i → (0 < jobAt t after-release i) × (jobAt t after-release i < 65534)
+  unfolding jobAt
+  job-range i w =
+      place-range (t .policy) (getD (t .deadline) i 0) (getD (t .gap) i 0) (getD (after-release .p) i 0) (getD (after-release .c) i 0) (in-time i (w .small) (w .has))
+
   job-before :
       (j i : ℕ) → Waits t after-release j → Waits t after-release i
       → sooner (jobAt t after-release j) j (jobAt t after-release i) i ≡ before t after-release j i
   unfolding before
   job-before j i w x =
-      sooner-less (jobAt t after-release j) j (jobAt t after-release i) i
+      sooner-less (jobAt t after-release j) j (jobAt t after-release i) i (job-range j w .1) (job-range i x .1)
       ∙ rw (job-less j i w x, job-less i j x w)
       (three
       (ltZ (key t after-release j) (key t after-release i)) (ltZ (key t after-release i) (key t after-release j))
       (ltZ (age t after-release i) (age t after-release j)) (ltZ (age t after-release j) (age t after-release i)) (ltb j i))
-
-  job-range : (i : ℕ) → Waits t after-release i → (0 < jobAt t after-release i) × (jobAt t after-release i < 65535)
-  unfolding jobAt
-  job-range i w =
-      place-range (t .policy) (getD (t .deadline) i 0) (getD (t .gap) i 0) (getD (after-release .p) i 0) (getD (after-release .c) i 0) (in-time i (w .small) (w .has))
 
   -- these places stand in the order of the jobs
   numbers-placed : {places : List ℕ} → ((i : ℕ) → i < 8 → getD places i 0 ≡ placeAt t after-release i) → Placed t after-release places
