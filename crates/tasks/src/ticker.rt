@@ -4,6 +4,7 @@ ghost use Prim.Native.Nat.{_+_, _-_, _*_, _<_, _≤_};
 ghost use lib.ListN.{getD};
 ghost use lib.Dec.{ltb};
 ghost use Rattle.lists.specs.Lists.{eight, pick};
+ghost use Rattle.jobs.specs.Place.{gapMask, workMask};
 ghost use Rattle.tasks.specs.Ticker.{readyIn, keepsIn, placeIn, placesIn, keptAt, baseAt, tickerOf, oldWord, preparedBy, selected, lowered, tickedBy, freeBy};
 use crate::state::State;
 use crate::table::Table;
@@ -195,6 +196,21 @@ fn bases(t: Table) -> [u16; 8]
     out
 }
 
+// The places of the tasks of eight words under a policy. Beside `Ticker::places`: the compiler keeps a loop with two callers out of line.
+fn new_places(policy: u8, kept: [u16; 8], base: [u16; 8], v: [u16; 8]) -> [u16; 8]
+    ensures { λ r. ⌜ r ≡ placesIn (eight (λ i. gapMask policy)) (eight (λ i. workMask policy)) kept base v ⌝ }
+{
+    let bygap = jobs::gap_mask(policy);
+    let bywork = jobs::work_mask(policy);
+    let mut out = [0u16; 8];
+    let mut i: usize = 0;
+    while i < 8 {
+        out[i] = place_in(bygap, bywork, kept[i], base[i], v[i]);
+        i += 1;
+    }
+    out
+}
+
 fn limits(t: Table) -> [u16; 8]
     ensures { λ r. ⌜ r ≡ eight (λ i. pick (ltb i (t .n)) 256 0) ⌝ }
 {
@@ -215,20 +231,18 @@ impl Table {
     {
         let fresh = State::start().release(self, 255);
         let idle = fresh.run([false; 8]);
-        let mut ticker = Ticker {
+        let kept = kept(self);
+        let base = bases(self);
+        Ticker {
             bits: [1, 2, 4, 8, 16, 32, 64, 128],
-            kept: kept(self),
-            base: bases(self),
+            kept,
+            base,
             bygap: [jobs::gap_mask(self.policy); 8],
             bywork: [jobs::work_mask(self.policy); 8],
-            newplace: [65535; 8],
+            newplace: new_places(self.policy, kept, base, fresh.words()),
             newword: idle.words(),
             limit: limits(self),
             m: wide16(self.m),
-        };
-        let ready = ticker.prepare(fresh.words());
-        let newplace = ready.place;
-        ticker.newplace = newplace;
-        ticker
+        }
     }
 }

@@ -2,9 +2,10 @@ use Prim.Native.Nat.{_^_}
 use mathlib.Core.Path.{ap, _∙_}
 use mathlib.Core.Bool.{false}
 use Rattle.lists.specs.Lists.{eight}
+use Rattle.jobs.specs.Place.{gapMask, workMask}
 use Rattle.tasks.specs.Tick.{released, ran}
 use Rattle.tasks.specs.Words.{wordsOf}
-use Rattle.tasks.specs.Ticker.{tickerOf, placesIn, preparedBy}
+use Rattle.tasks.specs.Ticker.{tickerOf, placesIn}
 use borrow.Author.Needs.{needs}
 use Rattle.tasks.proofs.table.Table.ticker.Statement.{statement}
 use Rattle.tasks.proofs.table.Table.ticker.Tie as tie
@@ -33,35 +34,34 @@ work-mask-requires c κs = search needs
 words-requires : tie.Need-words-requires
 words-requires c κs = search needs
 
+new-places-requires : tie.Need-new-places-requires
+new-places-requires c κs = search needs
+
+words-requires-2 : tie.Need-words-requires-2
+words-requires-2 c κs = search needs
+
 limits-requires : tie.Need-limits-requires
 limits-requires c κs = search needs
 
 wide16-requires : tie.Need-wide16-requires
 wide16-requires c κs = search needs
 
-words-requires-2 : tie.Need-words-requires-2
-words-requires-2 c κs = search needs
-
-prepare-requires : tie.Need-prepare-requires
-prepare-requires c κs = search needs
-
 returns : tie.Need-returns
-unfolding tickerOf preparedBy
+unfolding tickerOf
 returns c =
-    let made = c .before in
-    let m = made .before .before in
-    let l = m .before in
-    let w = l .before in
-    let b = w .before in
+    let w = c .before .before in
+    let n = w .before in
+    let v = n .before in
+    let b = v .before in
     let g = b .before in
     let s = g .before in
     let k = s .before in
     let r = k .before .before in
     let t = r .before .before .args .self in
     let fresh = r .release .ensures ∙ ap (λ s. released t s 255) (r .before .start .ensures) in
-    let word = w .words .ensures ∙ ap wordsOf (k .before .run .ensures ∙ ap (λ s. ran s (eight (λ i. false))) fresh) in
-    let words = made .before .words2 .ensures ∙ ap wordsOf fresh in
-    let place = ap (λ p. p .place) (made .prepare .ensures) ∙ (λ j. placesIn (eight (λ i. g .gap-mask .ensures j)) (eight (λ i. b .work-mask .ensures j)) (k .kept .ensures j) (s .bases .ensures j) (words j)) in
+    let word = w .words2 .ensures ∙ ap wordsOf (k .before .run .ensures ∙ ap (λ s. ran s (eight (λ i. false))) fresh) in
+    let words = v .words .ensures ∙ ap wordsOf fresh in
+    let place = n .new-places .ensures ∙ (λ j. placesIn (eight (λ i. gapMask (t .policy))) (eight (λ i. workMask (t .policy))) (k .kept .ensures j) (s .bases .ensures j) (words j)) in
     λ j.
     record {
       bits = eight (λ i. 2 ^ i);
@@ -71,8 +71,8 @@ returns c =
       bywork = eight (λ i. b .work-mask .ensures j);
       newplace = place j;
       newword = word j;
-      limit = l .limits .ensures j;
-      m = m .wide16 .ensures .0 j;
+      limit = c .before .limits .ensures j;
+      m = c .wide16 .ensures .0 j;
     }
 
 pub ticker-spec : {M : Type 1} → statement M
@@ -87,8 +87,8 @@ ticker-spec =
     gap-mask-requires
     work-mask-requires
     words-requires
+    new-places-requires
+    words-requires-2
     limits-requires
     wide16-requires
-    words-requires-2
-    prepare-requires
     returns)
