@@ -2,5 +2,6 @@
 pub mod Bools
 pub mod Picks
 pub mod Turns
+pub mod Digits
 pub mod Fill
 pub mod Counts

@@ -5,13 +5,14 @@ use mathlib.Core.List.{List}
 use mathlib.Core.Bool.{true, false}
 use native.Mathlib.Omega.{arith}
 use native.Mathlib.Decide.{ℕ-discrete}
+use lib.IntN.{pos}
 use lib.ListN.{getD}
 use borrow.Author.Tests.{eq-eqb, ne-eqb, lt-ltb, le-ltb}
 use Rattle.lists.specs.Lists.{eight, count}
 use Rattle.tasks.specs.State.{notPreempted, ready, started, keeps}
-use Rattle.tasks.specs.Tick.{before, ahead, runs, chosen}
+use Rattle.tasks.specs.Tick.{key, age, before, ahead, runs, chosen}
 use Rattle.cores.specs.Walk.{under, sooner, leads, rank, keptCount, taken}
-use Rattle.tasks.specs.Places.{earlier, place}
+use Rattle.tasks.specs.Places.{earlier, place, beforeIn, earlierIn}
 use Rattle.tasks.specs.declared.state.State.{State}
 use Rattle.tasks.specs.declared.table.Table.{Table}
 use Rattle.lists.proofs.Fill.{eight-at, eight-same}
@@ -108,6 +109,16 @@ module _ (t : Table) (s : State) where
   place-waits : (i : ℕ) → Waits t s i → getD (eight (place t s)) i 0 ≡ suc (earlier t s i)
   unfolding place
   place-waits i w = at i (w .small) ∙ rw (w .has, w .free)
+
+  before-in : (j i : ℕ) → j < 8 → i < 8 → beforeIn (eight (key t s)) (eight (age t s)) j i ≡ before t s j i
+  unfolding beforeIn before
+  before-in j i h k =
+      rw (eight-at (pos 0) (key t s) j h, eight-at (pos 0) (key t s) i k, eight-at (pos 0) (age t s) j h, eight-at (pos 0) (age t s) i k)
+
+  -- LAW: by keys and ages made once for all tasks, as many go before
+  pub earlier-in : (i : ℕ) → i < 8 → earlierIn (eight (key t s)) (eight (age t s)) i ≡ earlier t s i
+  unfolding earlierIn earlier
+  earlier-in i h = count-same (λ j. beforeIn (eight (key t s)) (eight (age t s)) j i) (λ j. before t s j i) 8 (λ j k. before-in j i k h)
 
   earlier-less : (j i : ℕ) → j < 8 → before t s j i ≡ true → earlier t s j < earlier t s i
   unfolding earlier

@@ -3,7 +3,7 @@ use Prim.Native.Nat.{ℕ}
 use mathlib.Core.Bool.{Bool, _&&_}
 use lib.Dec.{eqb, ltb}
 use lib.ListN.{getD}
-use Rattle.lists.specs.Lists.{byteOf}
+use Rattle.lists.specs.Lists.{bitsOf}
 use Rattle.tasks.specs.declared.state.State.{State}
 use Rattle.tasks.specs.declared.table.Table.{Table}
 
@@ -13,4 +13,4 @@ releasable t s i = ltb i (t .n) && eqb (getD (s .p) i 0) 0
 
 -- the mask of all tasks that may be released
 unfoldable pub freeMask : Table → State → ℕ
-freeMask t s = byteOf (releasable t s)
+freeMask t s = bitsOf 8 (releasable t s)

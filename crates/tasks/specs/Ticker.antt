@@ -6,7 +6,7 @@ use mathlib.Core.Bool.{Bool, false}
 use lib.Bits.{bitAnd}
 use lib.ListN.{getD}
 use lib.Dec.{eqb, ltb}
-use Rattle.lists.specs.Lists.{eight, pick, byteOf}
+use Rattle.lists.specs.Lists.{eight, pick, bitsOf}
 use Rattle.jobs.specs.Place.{baseOf, gapMask, workMask, moved}
 use Rattle.tasks.specs.State.{start, notPreempted}
 use Rattle.tasks.specs.Tick.{released, ran}
@@ -94,6 +94,10 @@ tickedBy k r mask =
 
 -- ---- what may be released
 
--- the mask of all tasks that may be released: those whose word is below their limit
+-- task i may be released: its word is below its limit
+unfoldable pub releasableIn : Ticker → List ℕ → ℕ → Bool
+releasableIn k v i = ltb (getD v i 0) (getD (k .limit) i 0)
+
+-- the mask of all tasks that may be released
 unfoldable pub freeBy : Ticker → List ℕ → ℕ
-freeBy k v = byteOf (λ i. ltb (getD v i 0) (getD (k .limit) i 0))
+freeBy k v = bitsOf 8 (releasableIn k v)

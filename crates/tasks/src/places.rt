@@ -2,11 +2,25 @@
 ghost use mathlib.Core.Path.{_≡_};
 ghost use Prim.Native.Nat.{_<_, _≤_};
 ghost use Rattle.lists.specs.Lists.{eight};
-ghost use Rattle.tasks.specs.Tick.{key, age, before, chosen};
-ghost use Rattle.tasks.specs.Places.{earlier, place};
+ghost use Rattle.tasks.specs.Tick.{key, age, chosen};
+ghost use Rattle.tasks.specs.Places.{place, earlierIn};
 use crate::state::State;
 use crate::table::Table;
 use crate::widths::wide16;
+
+// How many tasks go before task i, by the keys and ages of all.
+fn count_earlier(keys: [i16; 8], ages: [i16; 8], i: usize) -> u16
+    requires { ⌜ i < 8 ⌝ }
+    ensures { λ r. ⌜ (r ≡ earlierIn keys ages i) × (r ≤ 8) ⌝ }
+{
+    let mut n: u16 = 0;
+    let mut j: usize = 0;
+    while j < 8 {
+        n += jobs::goes_before(keys[j], ages[j], j, keys[i], ages[i], i) as u16;
+        j += 1;
+    }
+    n
+}
 
 impl State {
     // By what the policy orders the job of task i: nothing, the time left or the slack.
@@ -25,48 +39,40 @@ impl State {
         jobs::job_age(t.policy, t.gap[i], self.p[i])
     }
 
-    // Whether the job of task j goes before that of task i.
-    fn goes_before(self, t: Table, j: usize, i: usize) -> bool
-        requires { ⌜ (j < 8) × (i < 8) ⌝ }
-        ensures { λ r. ⌜ r ≡ before t self j i ⌝ }
+    fn keys(self, t: Table) -> [i16; 8]
+        ensures { λ r. ⌜ r ≡ eight (key t self) ⌝ }
     {
-        let a = self.key(t, j);
-        let x = self.age(t, j);
-        let b = self.key(t, i);
-        let y = self.age(t, i);
-        jobs::goes_before(a, x, j, b, y, i)
-    }
-
-    // How many tasks go before task i.
-    fn count_earlier(self, t: Table, i: usize) -> u16
-        requires { ⌜ i < 8 ⌝ }
-        ensures { λ r. ⌜ (r ≡ earlier t self i) × (r ≤ 8) ⌝ }
-    {
-        let mut n: u16 = 0;
-        let mut j: usize = 0;
-        while j < 8 {
-            n += self.goes_before(t, j, i) as u16;
-            j += 1;
+        let mut keys = [0i16; 8];
+        let mut i: usize = 0;
+        while i < 8 {
+            keys[i] = self.key(t, i);
+            i += 1;
         }
-        n
+        keys
     }
 
-    // The place of task i.
-    fn place(self, t: Table, i: usize) -> u16
-        requires { ⌜ i < 8 ⌝ }
-        ensures { λ r. ⌜ r ≡ place t self i ⌝ }
+    fn ages(self, t: Table) -> [i16; 8]
+        ensures { λ r. ⌜ r ≡ eight (age t self) ⌝ }
     {
-        let c = self.c[i];
-        jobs::place_of(0 < c, self.keeps(t, i), self.count_earlier(t, i))
+        let mut ages = [0i16; 8];
+        let mut i: usize = 0;
+        while i < 8 {
+            ages[i] = self.age(t, i);
+            i += 1;
+        }
+        ages
     }
 
     fn places(self, t: Table) -> [u16; 8]
         ensures { λ r. ⌜ r ≡ eight (place t self) ⌝ }
     {
+        let keys = self.keys(t);
+        let ages = self.ages(t);
         let mut places = [0u16; 8];
         let mut i: usize = 0;
         while i < 8 {
-            places[i] = self.place(t, i);
+            let c = self.c[i];
+            places[i] = jobs::place_of(0 < c, self.keeps(t, i), count_earlier(keys, ages, i));
             i += 1;
         }
         places

@@ -1,6 +1,6 @@
 // Many ticks with one table, on states in words.
 ghost use mathlib.Core.Path.{_≡_};
-ghost use Prim.Native.Nat.{_+_, _-_, _*_, _<_, _≤_};
+ghost use Prim.Native.Nat.{_-_};
 ghost use lib.ListN.{getD};
 ghost use lib.Dec.{ltb};
 ghost use Rattle.lists.specs.Lists.{eight, pick};
@@ -149,23 +149,19 @@ impl Ticker {
         lowered(places, words, self.m)
     }
 
-    // The weight w of task i's bit where the task may be released, else 0.
-    fn weight(self, v: [u16; 8], i: usize, w: u8) -> u8
-        requires { ⌜ i < 8 ⌝ }
-        ensures { λ r. ⌜ (r ≡ pick (ltb (getD v i 0) (getD (self .limit) i 0)) w 0) × (r ≤ w) ⌝ }
-    {
-        if v[i] < self.limit[i] { w } else { 0 }
-    }
-
-    // The mask of all tasks that may be released.
+    // The mask of all tasks that may be released. As a loop over the tasks it takes the compiler a few vector instructions.
     pub fn free(self, v: [u16; 8]) -> u8
         ensures { λ r. ⌜ r ≡ freeBy self v ⌝ }
     {
-        let a = self.weight(v, 0, 1) + self.weight(v, 1, 2);
-        let b = self.weight(v, 2, 4) + self.weight(v, 3, 8);
-        let c = self.weight(v, 4, 16) + self.weight(v, 5, 32);
-        let d = self.weight(v, 6, 64) + self.weight(v, 7, 128);
-        a + b + c + d
+        let mut mask: u16 = 0;
+        let mut bit: u16 = 1;
+        let mut i: usize = 0;
+        while i < 8 {
+            mask += either16(v[i] < self.limit[i], bit, 0);
+            bit *= 2;
+            i += 1;
+        }
+        mask as u8
     }
 }
 

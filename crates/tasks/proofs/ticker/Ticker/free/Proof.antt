@@ -1,76 +1,98 @@
+-- The invariant: the mask is made of the first i tasks, and the bit is that of the next. Assumes nothing.
+use Prim.Native.Nat.{suc, _+_, _-_, _^_, _≤_}
+use mathlib.Core.Path.{_≡_, refl, ap}
+use lib.Pow.{pow-mono}
+use native.Mathlib.Nat.{pow-suc}
+use Rattle.lists.specs.Lists.{bitsOf}
+use Rattle.lists.proofs.Turns.{bits-none, bits-turn, bits-less, bits-end, pick-most}
+use Rattle.tasks.specs.Ticker.{releasableIn, freeBy}
 use native.Mathlib.Omega.{arith}
-use Rattle.lists.specs.Lists.{byteOf}
-use Rattle.tasks.specs.Ticker.{freeBy}
 use borrow.Author.Needs.{needs}
 use Rattle.tasks.proofs.ticker.Ticker.free.Statement.{statement}
 use Rattle.tasks.proofs.ticker.Ticker.free.Tie as tie
 
-weight-requires : tie.Need-weight-requires
-weight-requires c κs = search needs
+abbrev Inv-loop : tie.InvT-loop
+Inv-loop self v mask₀ bit₀ i₀ mask bit i = (i ≤ 8) × (bit ≡ 2 ^ i) × (mask ≡ bitsOf i (releasableIn self v))
 
-weight-requires-2 : tie.Need-weight-requires-2
-weight-requires-2 c κs = search needs
+abbrev μ-loop : tie.MeasureT-loop
+μ-loop self v mask₀ bit₀ i₀ mask bit i = 8 - i
 
-add-a : tie.Need-add-a
-add-a c = search needs
+loop-holds : tie.Need-loop-holds Inv-loop μ-loop
+loop-holds c = (omega arith, refl, bits-none (releasableIn (c .args .t1) (c .args .t2)))
 
-weight-requires-3 : tie.Need-weight-requires-3
-weight-requires-3 c κs = search needs
+mul-either16 : tie.Need-mul-either16 Inv-loop μ-loop
+mul-either16 c = search needs
 
-weight-requires-4 : tie.Need-weight-requires-4
-weight-requires-4 c κs = search needs
+array-read-either16 : tie.Need-array-read-either16 Inv-loop μ-loop
+array-read-either16 c = search needs
 
-add-b : tie.Need-add-b
-add-b c = search needs
+mul-either16-2 : tie.Need-mul-either16-2 Inv-loop μ-loop
+mul-either16-2 c = search needs
 
-weight-requires-5 : tie.Need-weight-requires-5
-weight-requires-5 c κs = search needs
+element-copy-out-either16 : tie.Need-element-copy-out-either16 Inv-loop μ-loop
+element-copy-out-either16 c = search needs
 
-weight-requires-6 : tie.Need-weight-requires-6
-weight-requires-6 c κs = search needs
+either16-requires : tie.Need-either16-requires Inv-loop μ-loop
+either16-requires c κs = search needs
 
-add-c : tie.Need-add-c
-add-c c = search needs
+add-mask : tie.Need-add-mask Inv-loop μ-loop
+unfolding releasableIn
+add-mask c =
+    let h = c .before .before .before .loop in
+    let a = c .before .before .before .before .args in
+    let p = releasableIn (a .t1) (a .t2) in
+    omega
+    (arith, c .either16 .ensures, h .inv .1, h .inv .2, bits-less p (h .i), pow-mono {i = h .i} {j = 8} (h .inv .0), pick-most (p (h .i)) (h .bit))
 
-weight-requires-7 : tie.Need-weight-requires-7
-weight-requires-7 c κs = search needs
+mul-bit : tie.Need-mul-bit Inv-loop μ-loop
+mul-bit c =
+    let h = c .before .before .before .loop in
+    omega (arith, h .inv .1, pow-mono {i = h .i} {j = 8} (h .inv .0))
 
-weight-requires-8 : tie.Need-weight-requires-8
-weight-requires-8 c κs = search needs
+add-i : tie.Need-add-i Inv-loop μ-loop
+add-i c = search needs
 
-add-d : tie.Need-add-d
-add-d c = search needs
+loop-less : tie.Need-loop-less Inv-loop μ-loop
+loop-less c = search needs
 
-add-result : tie.Need-add-result
-add-result c = search needs
+loop-again : tie.Need-loop-again Inv-loop μ-loop
+unfolding releasableIn
+loop-again c =
+    let h = c .before .before .before .loop in
+    let a = c .before .before .before .before .args in
+    let e : 2 ^ (h .i + 1) ≡ 2 ^ suc (h .i) = ap (λ k. 2 ^ k) (omega arith) in
+    let turn = bits-turn (releasableIn (a .t1) (a .t2)) (h .i) (h .inv .2) (h .inv .1) in
+    (omega arith, omega (arith, e, h .inv .1, pow-suc 2 (h .i)), rw (c .either16 .ensures) turn)
 
-add-result-2 : tie.Need-add-result-2
-add-result-2 c = search needs
+cast-result : tie.Need-cast-result Inv-loop μ-loop
+cast-result c =
+    let h = c .before .loop in
+    let a = c .before .before .args in
+    omega (arith, h .inv .2, bits-less (releasableIn (a .t1) (a .t2)) (h .i), pow-mono {i = h .i} {j = 8} (h .inv .0))
 
-add-result-3 : tie.Need-add-result-3
-add-result-3 c = search needs
-
-returns : tie.Need-returns
-unfolding freeBy byteOf
-returns c = omega arith
+returns : tie.Need-returns Inv-loop μ-loop
+unfolding freeBy
+returns c =
+    let h = c .before .loop in
+    let a = c .before .before .args in
+    bits-end (releasableIn (a .t1) (a .t2)) (h .inv .2) (h .inv .0) (c .loop-test .left)
 
 pub free-spec : {M : Type 1} → statement M
 free-spec =
     tie.close
     (tie.spec
-    weight-requires
-    weight-requires-2
-    add-a
-    weight-requires-3
-    weight-requires-4
-    add-b
-    weight-requires-5
-    weight-requires-6
-    add-c
-    weight-requires-7
-    weight-requires-8
-    add-d
-    add-result
-    add-result-2
-    add-result-3
+    Inv-loop
+    μ-loop
+    loop-holds
+    mul-either16
+    array-read-either16
+    mul-either16-2
+    element-copy-out-either16
+    either16-requires
+    add-mask
+    mul-bit
+    add-i
+    loop-less
+    loop-again
+    cast-result
     returns)
