@@ -9,14 +9,12 @@ use lib.ListN.{getD}
 use mir.Syntax.{w8}
 use mir.Val.{Fits}
 use Rattle.tasks.specs.State.{start}
-use Rattle.tasks.specs.Words.{stateOf}
 use Rattle.tasks.specs.declared.state.State.{State}
 use Rattle.lists.proofs.Fill.{eight-at}
 use Rattle.levels.specs.Verdict.{Holds}
-use Rattle.states.specs.Keys.{keyOf, sameKeys, wordsOf}
+use Rattle.states.specs.Keys.{keyOf, sameKeys}
 use Rattle.states.specs.declared.keys.Key.{Key}
 use Rattle.states.proofs.KeyLaws.{key-from, Bytes, bytes-from, one-state, keys-same, keys-differ}
-use Rattle.states.proofs.WordLaws.{words-from}
 use Rattle.closed.specs.Closed.{stateIn}
 use Rattle.closed.specs.Keeping.{keyIn, HeldIs, NamedIs}
 
@@ -56,13 +54,6 @@ scanned-next {file} {key} {i} x e = record { none = below-more (λ j. keyIn file
 
 pub scanned-end : {file : List ℕ} {key : Key} {n : ℕ} → Scanned file key n → HeldIs file n key false
 scanned-end x h = x .none (h .place) (h .below) (h .same)
-
--- ---- what is read
-
--- LAW: the words of a state of the file
-pub read-state : (file : List ℕ) (i : ℕ) → ((k : ℕ) → Fits w8 (getD file k 0)) → stateOf (wordsOf (keyIn file i)) ≡ stateIn file i
-unfolding keyIn stateIn
-read-state file i fits = words-from file fits (16 * i)
 
 -- the start state has bytes
 pub start-bytes : Bytes start

@@ -6,13 +6,12 @@ ghost use Rattle.tasks.specs.Table.{tableFault};
 ghost use Rattle.tasks.specs.Ticker.{tickerOf};
 ghost use Rattle.closed.specs.Closed.{fileRefusal, closedAnswer, Judged, TableJudged, SheetJudged};
 ghost use Rattle.closed.specs.Keeping.{Given, SoundIs, ClosedIs};
-use crate::file::key_in;
 use crate::file::scan;
+use crate::file::words_in;
 use crate::passes::all_inside;
 use crate::passes::split_of;
 use crate::sound::is_sound;
 use states::key_of;
-use states::words_of;
 use tasks::Reading;
 use tasks::Table;
 use tasks::Ticker;
@@ -31,7 +30,7 @@ fn all_sound(t: Table, ticker: Ticker, file: &[u8], n: usize) -> bool
 {
     let mut i: usize = 0;
     while i < n {
-        if !is_sound(t, ticker, words_of(key_in(file, i))) {
+        if !is_sound(t, ticker, words_in(file, i)) {
             return false;
         }
         i += 1;

@@ -18,13 +18,13 @@ use crate::cells::clear;
 use crate::cells::put;
 use crate::file::gap_at;
 use crate::file::key_in;
+use crate::file::words_in;
 use crate::pending::all_held;
 use crate::pending::put_key;
 use states::Key;
 use states::follow;
 use states::key_of;
 use states::mix;
-use states::words_of;
 use tasks::Prepared;
 use tasks::Table;
 use tasks::Ticker;
@@ -165,7 +165,7 @@ fn row_pending(
     requires { ⌜ Given t (now file) n × (ticker ≡ tickerOf t) × (0 < pass .classes) × (split .task < 8) × (i < n) × (improper t (stateIn (now file) i) ≡ false) × (4 * count + 1024 ≤ length (now pending)) ⌝ }
     ensures { λ r. ⌜ (r ≤ count + 256) × RowWaits t (now (file .entry)) n (RowOf t (now (file .entry)) split pass i) (now (pending .entry)) count (now (pending .exit)) r ⌝ }
 {
-    let v = words_of(key_in(file, i));
+    let v = words_in(file, i);
     let gap = gap_at(file, i, split.task);
     let kept = between(pass.low, pass.high, landing(split.top, gap, false));
     let released = between(pass.low, pass.high, landing(split.top, gap, true));

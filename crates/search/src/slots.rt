@@ -9,6 +9,7 @@ ghost use Rattle.states.specs.Bytes.{fourAt, stateBytes};
 ghost use Rattle.search.specs.Slot.{stateAt, parentAt, maskAt, linkAt, stateWriting, stateSpace, linkedBytes, unlinked, Cleared};
 ghost use Rattle.tasks.specs.Answers.{writingAnswer};
 use states::joined;
+use states::words_from;
 use tasks::State;
 use tasks::Writing;
 use tasks::gap_in;
@@ -23,26 +24,12 @@ pub(crate) fn four_at(work: &[u8], at: usize) -> u32
     joined(work[at], work[at + 1], work[at + 2], work[at + 3])
 }
 
-// The number of two bytes, low byte first.
-fn two(x: u8, y: u8) -> u16
-    ensures { λ r. ⌜ r ≡ x + 256 * y ⌝ }
-{
-    (x as u16) + 256 * (y as u16)
-}
-
 // The words of the state in slot i.
 pub(crate) fn words_at(work: &[u8], i: usize) -> [u16; 8]
     requires { ⌜ 24 * i + 24 ≤ length (now work) ⌝ }
     ensures { λ r. ⌜ stateOf r ≡ stateAt (now (work .entry)) i ⌝ }
 {
-    let at = 24 * i;
-    let mut v = [0u16; 8];
-    let mut k: usize = 0;
-    while k < 8 {
-        v[k] = two(work[at + 2 * k], work[at + 2 * k + 1]);
-        k += 1;
-    }
-    v
+    words_from(work, 24 * i)
 }
 
 // The parent of slot i.

@@ -1,7 +1,7 @@
 -- Only the bookkeeping of those who look states up, no part of any claim: a state's sixteen bytes as four numbers, and a hash of them.
 use mathlib.Core.Bool.{Bool, _&&_}
-use mathlib.Core.List.{List, [], _∷_}
-use Prim.Native.Nat.{ℕ, _+_, _*_, _/_, _%_}
+use mathlib.Core.List.{List}
+use Prim.Native.Nat.{ℕ, _+_, _*_}
 use lib.Dec.{eqb}
 use lib.ListN.{getD}
 use Rattle.tasks.specs.declared.state.State.{State}
@@ -25,7 +25,3 @@ sameKeys k l = ((eqb (k .a) (l .a) && eqb (k .b) (l .b)) && eqb (k .c) (l .c)) &
 -- a sum in which every byte of the key counts: the factors are below 2^30, so it fits 64 bits
 unfoldable pub mixed : Key → ℕ
 mixed k = 625341585 * k .a + 1013904223 * k .b + 668265261 * k .c + 374761393 * k .d
-
--- the eight words of a key: the state's numbers, c + 256 p for each task
-unfoldable pub wordsOf : Key → List ℕ
-wordsOf k = k .a % 65536 ∷ k .a / 65536 ∷ k .b % 65536 ∷ k .b / 65536 ∷ k .c % 65536 ∷ k .c / 65536 ∷ k .d % 65536 ∷ k .d / 65536 ∷ []

@@ -1,9 +1,9 @@
 // Keys: a state's sixteen bytes in four numbers. By these it is compared and hashed.
 ghost use mathlib.Core.Path.{_≡_};
-ghost use Prim.Native.Nat.{_+_, _*_, _/_, _%_};
+ghost use Prim.Native.Nat.{_+_, _*_};
 ghost use Rattle.tasks.specs.Words.{stateOf};
 ghost use Rattle.states.specs.Bytes.{four};
-ghost use Rattle.states.specs.Keys.{keyOf, sameKeys, mixed, wordsOf};
+ghost use Rattle.states.specs.Keys.{keyOf, sameKeys, mixed};
 
 pub struct Key {
     pub a: u32,
@@ -36,34 +36,6 @@ pub fn key_of(v: [u16; 8]) -> Key
         c: double(v[4], v[5]),
         d: double(v[6], v[7]),
     }
-}
-
-fn low_word(x: u32) -> u16
-    ensures { λ r. ⌜ r ≡ x % 65536 ⌝ }
-{
-    (x % 65536) as u16
-}
-
-fn high_word(x: u32) -> u16
-    ensures { λ r. ⌜ r ≡ x / 65536 ⌝ }
-{
-    (x / 65536) as u16
-}
-
-// The words of a key.
-pub fn words_of(key: Key) -> [u16; 8]
-    ensures { λ r. ⌜ r ≡ wordsOf key ⌝ }
-{
-    [
-        low_word(key.a),
-        high_word(key.a),
-        low_word(key.b),
-        high_word(key.b),
-        low_word(key.c),
-        high_word(key.c),
-        low_word(key.d),
-        high_word(key.d),
-    ]
 }
 
 // Whether two keys are the same.

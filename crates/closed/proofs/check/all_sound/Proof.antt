@@ -1,13 +1,10 @@
 -- The invariant: the states passed are sound. Assumes nothing.
 use Prim.Native.Nat.{_-_, _≤_}
-use mathlib.Core.Path.{_≡_, ap, _∙_}
+use mathlib.Core.Path.{_≡_}
 use mathlib.Core.Bool.{true, false}
 use borrow.Author.Tests.{not-true, not-false}
-use Rattle.tasks.specs.Words.{stateOf}
-use Rattle.states.specs.Keys.{wordsOf}
 use Rattle.closed.specs.Closed.{stateIn}
 use Rattle.closed.specs.Keeping.{StateIs}
-use Rattle.closed.proofs.FileLaws.{read-state}
 use Rattle.closed.proofs.RowLaws.{SoundTo, sound-start, sound-next, sound-end, not-sound}
 use native.Mathlib.Omega.{arith}
 use borrow.Author.Needs.{needs}
@@ -22,34 +19,26 @@ abbrev μ-loop : tie.MeasureT-loop
 
 -- what the test says of the state
 told :
-    (c : tie.After-is-sound Inv-loop μ-loop) → StateIs (c .before .before .before .before .before .before .args .t) (stateIn (c .before .before .before .before .before .before .args .file .now) (c .before .before .before .before .loop .i)) (c .is-sound .result)
-told c =
-    let here =
-    ap stateOf (c .before .words-of .ensures) ∙ ap (λ k. stateOf (wordsOf k)) (c .before .before .key-in .ensures)
-    ∙ read-state (c .before .before .before .before .before .before .args .file .now) (c .before .before .before .before .loop .i) (c .before .before .before .before .before .shared-slice-known .given) in
-    rw here at (c .is-sound .ensures)
+    (c : tie.After-is-sound Inv-loop μ-loop) → StateIs (c .before .before .before .before .before .args .t) (stateIn (c .before .before .before .before .before .args .file .now) (c .before .before .before .loop .i)) (c .is-sound .result)
+told c = rw (c .before .words-in .ensures) at (c .is-sound .ensures)
 
 loop-holds : tie.Need-loop-holds Inv-loop μ-loop
 loop-holds c =
     (omega arith, sound-start _ _)
 
-key-in-requires : tie.Need-key-in-requires Inv-loop μ-loop
-key-in-requires c κs =
+words-in-requires : tie.Need-words-in-requires Inv-loop μ-loop
+words-in-requires c κs =
     let g = c .before .before .before .pre .0 .whole in
     omega (arith, g, c .loop-test .taken)
 
-words-of-requires : tie.Need-words-of-requires Inv-loop μ-loop
-words-of-requires c κs = search needs
-
 is-sound-requires : tie.Need-is-sound-requires Inv-loop μ-loop
-is-sound-requires c κs =
-    (c .before .before .before .before .before .pre .0 .valid, c .before .before .before .before .before .pre .1)
+is-sound-requires c κs = (c .before .before .before .before .pre .0 .valid, c .before .before .before .before .pre .1)
 
 returns : tie.Need-returns Inv-loop μ-loop
 returns c =
-    let s = c .before .before .before .before .before .before .before in
+    let s = c .before .before .before .before .before .before in
     let none : c .before .is-sound .result ≡ false = not-true (c .before .is-sound .result) (c .if1 .taken) in
-    not-sound (s .args .t) (s .args .file .now) (s .pre .0 .is) (c .before .before .before .before .loop-test .taken) (rw none at (told (c .before)))
+    not-sound (s .args .t) (s .args .file .now) (s .pre .0 .is) (c .before .before .before .loop-test .taken) (rw none at (told (c .before)))
 
 add-i : tie.Need-add-i Inv-loop μ-loop
 add-i c = search needs
@@ -59,9 +48,9 @@ loop-less c = search needs
 
 loop-again : tie.Need-loop-again Inv-loop μ-loop
 loop-again c =
-    let s = c .before .before .before .before .before .before .before in
+    let s = c .before .before .before .before .before .before in
     let yes : c .before .is-sound .result ≡ true = not-false (c .before .is-sound .result) (c .if1 .left) in
-    (omega (arith, c .before .before .before .before .loop-test .taken), sound-next (s .args .t) (s .args .file .now) (c .before .before .before .before .before .loop .inv .1) (rw yes at (told (c .before))))
+    (omega (arith, c .before .before .before .loop-test .taken), sound-next (s .args .t) (s .args .file .now) (c .before .before .before .before .loop .inv .1) (rw yes at (told (c .before))))
 
 returns-2 : tie.Need-returns-2 Inv-loop μ-loop
 returns-2 c =
@@ -75,8 +64,7 @@ all-sound-spec =
     Inv-loop
     μ-loop
     loop-holds
-    key-in-requires
-    words-of-requires
+    words-in-requires
     is-sound-requires
     returns
     add-i

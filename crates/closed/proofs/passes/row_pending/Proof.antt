@@ -11,11 +11,9 @@ use Rattle.tasks.specs.Masks.{freeMask}
 use Rattle.tasks.specs.Words.{stateOf}
 use Rattle.tasks.proofs.InWords.{WordList}
 use Rattle.tasks.proofs.Free.{ticks, frees}
-use Rattle.states.specs.Keys.{wordsOf}
 use Rattle.states.proofs.MaskLaws.{walked-falls}
 use Rattle.closed.specs.Closed.{stateIn}
 use Rattle.closed.specs.Keeping.{landing}
-use Rattle.closed.proofs.FileLaws.{read-state}
 use Rattle.closed.proofs.RowLaws.{RowTo, Row, row-start, row-next, row-skipped, row-end}
 use native.Mathlib.Omega.{arith}
 use borrow.Author.Needs.{needs}
@@ -31,18 +29,18 @@ abbrev μ-loop : tie.MeasureT-loop
 
 -- where the row began
 abbrev start : tie.At-loop Inv-loop μ-loop → tie.Start Inv-loop μ-loop
-start l = l .before .before .before .before .before .before .before .before .before .before .before .before .before
+start l = l .before .before .before .before .before .before .before .before .before .before .before .before
 
 -- the words are words
-word-list : (w : tie.After-words-of Inv-loop μ-loop) → WordList (w .words-of .result)
+word-list : (w : tie.After-words-in Inv-loop μ-loop) → WordList (w .words-in .result)
 word-list w = record { word = λ i h. search needs }
 
 -- whether the masks are due, by the gap that was read
 due-is :
     (g : tie.After-gap-at Inv-loop μ-loop) (released : Bool) {b : Bool} {at : ℕ}
-    → b ≡ (leb (g .before .before .before .before .before .args .pass .low) at && ltb at (g .before .before .before .before .before .args .pass .high))
-    → at ≡ landing (g .before .before .before .before .before .args .split .top) (g .gap-at .result) released
-    → b ≡ (leb (g .before .before .before .before .before .args .pass .low) (landing (g .before .before .before .before .before .args .split .top) (getD (g .before .before .before .before .before .args .file .now) (16 * g .before .before .before .before .before .args .i + 2 * g .before .before .before .before .before .args .split .task + 1) 0) released) && ltb (landing (g .before .before .before .before .before .args .split .top) (getD (g .before .before .before .before .before .args .file .now) (16 * g .before .before .before .before .before .args .i + 2 * g .before .before .before .before .before .args .split .task + 1) 0) released) (g .before .before .before .before .before .args .pass .high))
+    → b ≡ (leb (g .before .before .before .before .args .pass .low) at && ltb at (g .before .before .before .before .args .pass .high))
+    → at ≡ landing (g .before .before .before .before .args .split .top) (g .gap-at .result) released
+    → b ≡ (leb (g .before .before .before .before .args .pass .low) (landing (g .before .before .before .before .args .split .top) (getD (g .before .before .before .before .args .file .now) (16 * g .before .before .before .before .args .i + 2 * g .before .before .before .before .args .split .task + 1) 0) released) && ltb (landing (g .before .before .before .before .args .split .top) (getD (g .before .before .before .before .args .file .now) (16 * g .before .before .before .before .args .i + 2 * g .before .before .before .before .args .split .task + 1) 0) released) (g .before .before .before .before .args .pass .high))
 due-is g released e f = rw (e, f, g .gap-at .ensures)
 
 -- what the row knows of its state
@@ -53,8 +51,7 @@ row l =
     let s = start l in
     let w = l .before .before .before .before .before .before .before .before .before in
     let g = l .before .before .before .before .before .before .before .before in
-    let here : stateOf (w .words-of .result) ≡ stateIn (s .args .file .now) (s .args .i) =
-    ap stateOf (w .words-of .ensures) ∙ ap (λ k. stateOf (wordsOf k)) (w .before .key-in .ensures) ∙ read-state (s .args .file .now) (s .args .i) (l .before .before .before .before .before .before .before .before .before .before .before .before .shared-slice-known .given) in
+    let here : stateOf (w .words-in .result) ≡ stateIn (s .args .file .now) (s .args .i) = w .words-in .ensures in
     record {
       keeps = due-is g false (l .before .before .before .before .before .before .between .ensures) (l .before .before .before .before .before .before .before .landing .ensures);
       releases = due-is g true (l .before .before .before .before .between2 .ensures) (l .before .before .before .before .before .landing2 .ensures);
@@ -62,17 +59,14 @@ row l =
       frees = frees (s .args .t) _ (s .pre .1) (l .before .before .free .ensures) ∙ ap (freeMask (s .args .t)) here;
     }
 
-key-in-requires : tie.Need-key-in-requires Inv-loop μ-loop
-key-in-requires c κs =
+words-in-requires : tie.Need-words-in-requires Inv-loop μ-loop
+words-in-requires c κs =
     let g = c .before .before .pre in
     omega (arith, g .0 .whole, g .4)
 
-words-of-requires : tie.Need-words-of-requires Inv-loop μ-loop
-words-of-requires c κs = search needs
-
 gap-at-requires : tie.Need-gap-at-requires Inv-loop μ-loop
 gap-at-requires c κs =
-    let g = c .before .before .before .before .pre in
+    let g = c .before .before .before .pre in
     (omega (arith, g .0 .whole, g .4), g .3)
 
 landing-requires : tie.Need-landing-requires Inv-loop μ-loop
@@ -89,7 +83,7 @@ between-requires-2 c κs = search needs
 
 returns : tie.Need-returns Inv-loop μ-loop
 returns c =
-    let s = c .before .before .before .before .before .before .before .before .before .before in
+    let s = c .before .before .before .before .before .before .before .before .before in
     let g = c .before .before .before .before .before in (
       omega arith,
       row-skipped (s .args .t) (s .args .file .now) (s .args .split) (s .args .pass) (s .args .i)
@@ -135,7 +129,7 @@ loop-again c =
     rw (c .follow .ensures) (
       omega (arith, more .0, l .loop .inv .0, walked-falls _ free (l .loop .inv .2 .walked) small),
       more .1 .grown .same ∙ l .loop .inv .1,
-      row-next free (l .loop .inv .2) small (c .before .before .before .before .before .is-due .ensures) (l .before .before .before .before .before .before .before .before .before .before .before .before .shared-slice-known .given) (more .1),
+      row-next free (l .loop .inv .2) small (c .before .before .before .before .before .is-due .ensures) (l .before .before .before .before .before .before .before .before .before .before .before .shared-slice-known .given) (more .1),
     )
 
 same-length : tie.Need-same-length Inv-loop μ-loop
@@ -153,8 +147,7 @@ row-pending-spec =
     (tie.spec
     Inv-loop
     μ-loop
-    key-in-requires
-    words-of-requires
+    words-in-requires
     gap-at-requires
     landing-requires
     between-requires
