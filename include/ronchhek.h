@@ -1,4 +1,5 @@
-/* Ronchhek: verdicts on real-time task tables, evidence of Safe, the replay of release lists, and task sheets read and written.
+/* Ronchhek: verdicts on real-time task tables, evidence of Safe, the replay of release lists and where its core time went, and
+ * task sheets read and written.
  *
  * Link with libronchhek.a (`rt staticlib ronchhek` writes it to target/staticlib/). The calls take any bytes and any lengths
  * and always return. They read and write nothing but the bytes they are lent, take nothing from the heap, make no system
@@ -6,7 +7,8 @@
  *
  * A pointer goes with the number of bytes that it points to. The lent spaces must not overlap each other or the input.
  * A length may be 0; its pointer is then not used, but must not be NULL (any address will do).
- * There is no alignment to keep. A refusal leaves every lent byte as it was.
+ * There is no alignment to keep. A refusal leaves every lent byte as it was, but for one: under refusal 11 ronchhek_service writes
+ * the totals of the ticks before.
  */
 #ifndef RONCHHEK_H
 #define RONCHHEK_H
@@ -21,12 +23,14 @@ extern "C" {
 /* Sizes.
  *
  * A slot of the work space has 24 bytes, so a work space has K = work_len / 24 slots, rounded down; slots past the
- * millionth are not used. The trace space needs K bytes. A state has 16 bytes, a table 27. The longest sheet has 52 bytes.
+ * millionth are not used. The trace space needs K bytes. A state has 16 bytes, a table 27, the totals of a replay 192. The
+ * longest sheet has 52 bytes.
  */
 #define RONCHHEK_SLOT_BYTES 24
 #define RONCHHEK_MOST_SLOTS 1000000
 #define RONCHHEK_STATE_BYTES 16
 #define RONCHHEK_TABLE_BYTES 27
+#define RONCHHEK_TOTALS_BYTES 192
 #define RONCHHEK_LONGEST_SHEET 52
 
 /* Stack that ronchhek_verdict needs, in bytes, by the slots of the work space, that ronchhek_closed needs, and that
@@ -95,8 +99,9 @@ extern "C" {
  *       or fewer slots than states are asked for                   (ronchhek_states)
  *   10  the trace space is shorter than the slots are many         (ronchhek_verdict)
  *   11  a mask's bit for no task, or for a task that may not be released yet
- *                                                                  (ronchhek_replay, with the tick's number)
+ *                                                                  (ronchhek_replay and ronchhek_service, with the tick's number)
  *   12  the space for the outcome is too short: 16 bytes of state  (ronchhek_replay),
+ *       192 bytes of totals                                        (ronchhek_service),
  *       27 bytes of table (ronchhek_read), the sheet's length      (ronchhek_write),
  *       16 bytes for each state                                    (ronchhek_states)
  *   14  the file is empty or not a whole number of states          (ronchhek_closed),
@@ -211,6 +216,28 @@ uint64_t ronchhek_replay(const uint8_t *sheet, size_t sheet_len,
 #define RONCHHEK_REPLAY_KIND(answer) ((unsigned)((answer) >> 56))
 #define RONCHHEK_REPLAY_NUMBER(answer) ((unsigned)((answer) >> 48 & 0xFF))
 #define RONCHHEK_REPLAY_TICK(answer) ((answer) & 0xFFFFFFFFFFFF)
+
+/* Where the core time went: the replay of a release list, with three totals of each task.
+ *
+ * Returns what ronchhek_replay returns for the same sheet and list, with 192 bytes of totals for its 16 of state: so a list with an
+ * illegal mask answers 11 whatever the totals space, and a list that is played answers 12 where that space is shorter.
+ *
+ * totals  Under Kept, Missed and refusal 11 its first 192 bytes are written: three numbers of task 1, then of task 2, and so on to
+ *         task 8, of 8 bytes each, low byte first. Of task i they stand at bytes 24(i-1), 24(i-1)+8 and 24(i-1)+16:
+ *
+ *           releases   how many of its jobs were released
+ *           ran        the ticks in which it ran
+ *           left       the work left of its last job at the end
+ *
+ *         All three are 0 for tasks that the table does not have. Later bytes stay. Under any other refusal all bytes stay,
+ *         and so they do under 11 where the space is shorter than 192.
+ *
+ * They balance: for every list and each task, releases * C = ran + left. The tick that misses is counted. The tick that is refused with
+ * 11 is not, nor is its mask: the totals are those of the ticks before it. The empty list is Kept, with totals of 0.
+ */
+uint64_t ronchhek_service(const uint8_t *sheet, size_t sheet_len,
+                          const uint8_t *list, size_t list_len,
+                          uint8_t *totals, size_t totals_len);
 
 /* The table of a sheet, and the sheet of a table. A sheet that is read and written again has the same bytes, and a table that
  * is written and read again is the same table.

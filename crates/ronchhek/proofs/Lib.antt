@@ -1,5 +1,6 @@
 -- Laws that several proofs cite.
 pub mod VerdictLaws
 pub mod ReplayLaws
+pub mod ServiceLaws
 pub mod TableLaws
 pub mod FileLaws

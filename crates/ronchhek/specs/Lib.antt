@@ -1,4 +1,5 @@
 pub mod Verdicts
 pub mod Replays
+pub mod Services
 pub mod Tables
 pub mod Files

@@ -27,11 +27,11 @@ abbrev pub outcomeNumber : Outcome → ℕ
 outcomeNumber Kept = 2 ^ 56
 outcomeNumber (Missed k) = 2 * 2 ^ 56 + k
 
--- the number of each answer of a replay: 11 comes before 12, which is judged where a state is to be written and its space is
--- shorter than 16 bytes
-abbrev pub answerNumber : ReplayAnswer → List ℕ → ℕ
-answerNumber (Played o) space = pick (ltb (length space) 16) (refusedAt 12 0) (outcomeNumber o)
-answerNumber (Refused r k) space = refusedAt r k
+-- the number of each answer of a replay that has `size` bytes to write: 11 comes before 12, which is judged where a list is played and its
+-- space is shorter
+abbrev pub answerNumber : ℕ → ReplayAnswer → List ℕ → ℕ
+answerNumber size (Played o) space = pick (ltb (length space) size) (refusedAt 12 0) (outcomeNumber o)
+answerNumber size (Refused r k) space = refusedAt r k
 
 -- the space afterwards: a list that was played leaves the sixteen bytes of its state at the front, a refusal leaves all
 abbrev pub answerSpace : ReplayAnswer → State → List ℕ → List ℕ
@@ -39,8 +39,8 @@ answerSpace (Played o) s space = stateSpace s space
 answerSpace (Refused r k) s space = space
 
 -- the replay of a table; a list with more ticks than the answer has room for is not played (12)
-unfoldable pub tableNumber : Table → List ℕ → List ℕ → ℕ
-tableNumber t list space = pick (leb (2 ^ 48) (length list)) (refusedAt 12 0) (answerNumber (replayed t list .answer) space)
+unfoldable pub tableNumber : ℕ → Table → List ℕ → List ℕ → ℕ
+tableNumber size t list space = pick (leb (2 ^ 48) (length list)) (refusedAt 12 0) (answerNumber size (replayed t list .answer) space)
 
 unfoldable pub tableSpace : Table → List ℕ → List ℕ → List ℕ
 tableSpace t list space =
@@ -55,9 +55,9 @@ abbrev pub spaceIfAccepted : Reading → List ℕ → List ℕ → List ℕ
 spaceIfAccepted Reading.Accepted new old = new
 spaceIfAccepted (Reading.Refused r) new old = old
 
--- the call: the number that it returns, and the space afterwards
-unfoldable pub callNumber : List ℕ → List ℕ → List ℕ → ℕ
-callNumber sheet list space = ifAccepted (sheetOf sheet .answer) (tableNumber (sheetOf sheet .table) list space)
+-- the call: the number that it returns, here with a size of 16, and the space afterwards
+unfoldable pub callNumber : ℕ → List ℕ → List ℕ → List ℕ → ℕ
+callNumber size sheet list space = ifAccepted (sheetOf sheet .answer) (tableNumber size (sheetOf sheet .table) list space)
 
 unfoldable pub callSpace : List ℕ → List ℕ → List ℕ → List ℕ
 callSpace sheet list space = spaceIfAccepted (sheetOf sheet .answer) (tableSpace (sheetOf sheet .table) list space) space

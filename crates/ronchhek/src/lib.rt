@@ -1,12 +1,15 @@
-// The calls for C, thin over `tasks`, `search` and `evidence`: a sheet's verdict, its evidence, the replay of a list, and a sheet's table as bytes.
+// The calls for C, thin over `tasks`, `service`, `search` and `evidence`: a sheet's verdict, its evidence, the replay of a list and its totals, and a sheet's
+// table as bytes.
 mod files;
 mod replays;
+mod services;
 mod tables;
 mod verdicts;
 
 pub use files::ronchhek_closed;
 pub use files::ronchhek_states;
 pub use replays::ronchhek_replay;
+pub use services::ronchhek_service;
 pub use tables::ronchhek_read;
 pub use tables::ronchhek_write;
 pub use verdicts::ronchhek_verdict;

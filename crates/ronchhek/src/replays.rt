@@ -14,14 +14,14 @@ const NUMBER: u64 = 281474976710656;
 
 const KIND: u64 = 72057594037927936;
 
-fn refused_at(r: u8, tick: usize) -> u64
+pub(crate) fn refused_at(r: u8, tick: usize) -> u64
     requires { ⌜ tick < 281474976710656 ⌝ }
     ensures { λ n. ⌜ n ≡ refusedAt r tick ⌝ }
 {
     (r as u64) * NUMBER + (tick as u64)
 }
 
-fn outcome_number(o: Outcome) -> u64
+pub(crate) fn outcome_number(o: Outcome) -> u64
     requires { ⌜ outcomeTick o < 281474976710656 ⌝ }
     ensures { λ n. ⌜ n ≡ outcomeNumber o ⌝ }
 {
@@ -33,7 +33,7 @@ fn outcome_number(o: Outcome) -> u64
 
 // Replays a list with a table, and writes the state that a played list ends with.
 fn replay_table(t: Table, list: &[u8], state: &mut [u8]) -> u64
-    ensures { λ r. ⌜ (r ≡ tableNumber t (now (list .entry)) (now (state .entry))) × (now (state .exit) ≡ tableSpace t (now (list .entry)) (now (state .entry))) ⌝ }
+    ensures { λ r. ⌜ (r ≡ tableNumber 16 t (now (list .entry)) (now (state .entry))) × (now (state .exit) ≡ tableSpace t (now (list .entry)) (now (state .entry))) ⌝ }
 {
     if 281474976710656 <= list.len() {
         return refused_at(12, 0);
@@ -53,7 +53,7 @@ fn replay_table(t: Table, list: &[u8], state: &mut [u8]) -> u64
 // The replay of a sheet's table.
 #[no_mangle]
 pub extern "C" fn ronchhek_replay(sheet: &[u8], list: &[u8], state: &mut [u8]) -> u64
-    ensures { λ r. ⌜ (r ≡ callNumber (now (sheet .entry)) (now (list .entry)) (now (state .entry))) × (now (state .exit) ≡ callSpace (now (sheet .entry)) (now (list .entry)) (now (state .entry))) ⌝ }
+    ensures { λ r. ⌜ (r ≡ callNumber 16 (now (sheet .entry)) (now (list .entry)) (now (state .entry))) × (now (state .exit) ≡ callSpace (now (sheet .entry)) (now (list .entry)) (now (state .entry))) ⌝ }
 {
     let read = tasks::read_sheet(sheet);
     let answer = read.answer;

@@ -38,6 +38,11 @@ module _ (t : Table) (s : State) (mask : ℕ) where
   unfolding refusal
   refusal-none valid proper legal = rw (valid, proper, legal)
 
+  -- a bad table refuses every tick
+  pub refusal-fault : 0 < tableFault t → 0 < refusal t s mask
+  unfolding refusal
+  refusal-fault bad = rw (lt-ltb 0 (tableFault t) bad) bad
+
   pub refusal-passed : refusal t s mask ≤ 0 → (tableFault t ≡ 0) × (improper t s ≡ false) × (illegal t s mask ≡ false)
   unfolding refusal
   refusal-passed h =

@@ -88,8 +88,8 @@ module _ (t : Table) (s : State) where
       (ltb-true i (t .n) (and-left (ltb i (t .n)) (eqb (getD (s .p) i 0) 0) on), eqb-true (getD (s .p) i 0) 0 (and-right (ltb i (t .n)) (eqb (getD (s .p) i 0) 0) on)))
 
 module _ (t : Table) (s : State) (valid : tableFault t ≡ 0) (proper : improper t s ≡ false) where
-  -- a task of a proper state that may be released has no job
-  idle : (i : ℕ) → i < 8 → getD (s .p) i 0 ≡ 0 → getD (s .c) i 0 ≡ 0
+  -- LAW: a task of a proper state that may be released has no job
+  pub idle : (i : ℕ) → i < 8 → getD (s .p) i 0 ≡ 0 → getD (s .c) i 0 ≡ 0
   idle i h e =
       by-bool (ltb 0 (getD (s .c) i 0))
       (λ r.

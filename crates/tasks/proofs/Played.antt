@@ -28,7 +28,7 @@ use Rattle.tasks.proofs.Answers.{replay-told}
 use Rattle.tasks.proofs.Proper.{start-proper}
 use Rattle.tasks.proofs.Answered.{ticked-legal, ticked-illegal, ticked-proper}
 
-drop-step : (l : List ℕ) (i : ℕ) → i < length l → drop i l ≡ getD l i 0 ∷ drop (i + 1) l
+pub drop-step : (l : List ℕ) (i : ℕ) → i < length l → drop i l ≡ getD l i 0 ∷ drop (i + 1) l
 drop-step l i h = drop-cons l i 0 h ∙ ap (λ n. getD l i 0 ∷ drop n l) (sym (add-one i))
 
 module _ (t : Table) where

@@ -32,9 +32,10 @@ pub use tick::Ticked;
 pub use writer::Writing;
 pub use writer::write_sheet;
 
-// The inner interface, for the layers above: it takes any table and any words, and refuses nothing. `Table::ticker`, `State::words` and
-// `State::of_words` are of it.
+// The inner interface, for the layers above: it takes any table, state and words, and refuses nothing. `Table::ticker`, `State::words`,
+// `State::of_words` and the steps of a tick (`State::illegal`, `release`, `choose`, `run` and `missed`) are of it.
 pub use slack::tight;
+pub use state::has_bit;
 pub use ticker::Prepared;
 pub use ticker::Ticker;
 pub use widths::wide;

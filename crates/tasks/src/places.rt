@@ -79,7 +79,7 @@ impl State {
     }
 
     // Steps 2 and 3 of a tick: which tasks run, by a walk that gives out the processors.
-    pub(crate) fn choose(self, t: Table) -> [bool; 8]
+    pub fn choose(self, t: Table) -> [bool; 8]
         ensures { λ r. ⌜ r ≡ chosen t self ⌝ }
     {
         let given = cores::assign(self.places(t), wide16(t.m));

@@ -14,7 +14,7 @@ pub struct State {
 }
 
 // Whether bit i of the mask is set.
-fn has_bit(mask: u8, i: usize) -> bool
+pub fn has_bit(mask: u8, i: usize) -> bool
     requires { ⌜ i < 8 ⌝ }
     ensures { λ r. ⌜ r ≡ bit mask i ⌝ }
 {
@@ -40,7 +40,7 @@ impl State {
     }
 
     // Step 1 of a tick: each task whose bit is set gets c = C and p = P.
-    pub(crate) fn release(self, t: Table, mask: u8) -> State
+    pub fn release(self, t: Table, mask: u8) -> State
         ensures { λ r. ⌜ r ≡ released t self mask ⌝ }
     {
         let mut c = [0u8; 8];
@@ -56,7 +56,7 @@ impl State {
     }
 
     // Step 4 of a tick, where the tasks of `run` run: their c falls by 1, and every p above 0 does.
-    pub(crate) fn run(self, run: [bool; 8]) -> State
+    pub fn run(self, run: [bool; 8]) -> State
         ensures { λ r. ⌜ r ≡ ran self run ⌝ }
     {
         let mut c = [0u8; 8];
@@ -79,7 +79,7 @@ impl State {
     }
 
     // Step 5 of a tick: whether some job is late.
-    pub(crate) fn missed(self, t: Table) -> bool
+    pub fn missed(self, t: Table) -> bool
         ensures { λ r. ⌜ r ≡ missed t self ⌝ }
     {
         let mut found = false;
@@ -166,7 +166,7 @@ impl State {
     }
 
     // Whether the mask is not legal.
-    pub(crate) fn illegal(self, t: Table, mask: u8) -> bool
+    pub fn illegal(self, t: Table, mask: u8) -> bool
         ensures { λ r. ⌜ r ≡ illegal t self mask ⌝ }
     {
         let mut found = false;

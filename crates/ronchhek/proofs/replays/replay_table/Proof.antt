@@ -1,23 +1,15 @@
 -- Each exit is one of the ways of ReplayLaws. Assumes nothing.
 use mathlib.Core.Path.{_≡_, sym, ap, _∙_}
-use Rattle.tasks.specs.Answers.{replayAnswer}
 use Rattle.tasks.specs.Replay.{replayTick, outcomeTick}
 use Rattle.tasks.specs.declared.play.Replayed.{Replayed}
-use Rattle.tasks.proofs.Answers.{replay-is, writing-is}
+use Rattle.tasks.proofs.Answers.{writing-is}
 use Rattle.search.specs.Slot.{stateSpace}
 use Rattle.ronchhek.specs.Replays.{refusedAt}
-use Rattle.ronchhek.proofs.ReplayLaws.{not-written, written-room, long-list, list-refused, list-space, list-unwritten, list-played}
+use Rattle.ronchhek.proofs.ReplayLaws.{is-replay, told, not-written, written-room, long-number, refused-number, unwritten-number, played-number, long-space, refused-space, played-space}
 use native.Mathlib.Omega.{arith}
 use borrow.Author.Needs.{needs}
 use Rattle.ronchhek.proofs.replays.replay_table.Statement.{statement}
 use Rattle.ronchhek.proofs.replays.replay_table.Tie as tie
-
--- the replay and its answer
-is-replay : {r q : Replayed} {A : Type 0} → (replayAnswer r ≡ replayAnswer q) × (r .state ≡ q .state) × A → r ≡ q
-is-replay e = replay-is (e .0, e .1)
-
-told : {r q : Replayed} → r ≡ q → q .answer ≡ r .answer
-told e = ap (λ (x : Replayed). x .answer) (sym e)
 
 refused-at-requires : tie.Need-refused-at-requires
 refused-at-requires c κs = search needs
@@ -25,8 +17,7 @@ refused-at-requires c κs = search needs
 returns : tie.Need-returns
 returns c =
     let a = c .before .before .before .before .args in
-    let w = long-list (a .t) (a .list .now) (a .state .now) (c .before .if1 .taken) in
-    (c .refused-at .ensures ∙ w .0, w .1)
+    (c .refused-at .ensures ∙ long-number 16 (a .t) (a .list .now) (a .state .now) (c .before .if1 .taken), long-space (a .t) (a .list .now) (a .state .now) (c .before .if1 .taken))
 
 replay-requires : tie.Need-replay-requires
 replay-requires c κs = search needs
@@ -64,8 +55,9 @@ outcome-number-requires c κs =
 returns-2 : tie.Need-returns-2
 returns-2 c =
     let a = c .before .before .before .before .before .before .before .before .before .args in
-    let w = list-refused (a .t) (a .list .now) (a .state .now) (c .before .before .before .before .before .before .if1 .left) _ _ (told (is-replay (c .before .before .before .before .before .replay .ensures)) ∙ c .before .before .answer .given .1) in
-    (c .refused-at2 .ensures ∙ w .0, w .1)
+    let short = c .before .before .before .before .before .before .if1 .left in
+    let refused = told (is-replay (c .before .before .before .before .before .replay .ensures)) ∙ c .before .before .answer .given .1 in
+    (c .refused-at2 .ensures ∙ refused-number 16 (a .t) (a .list .now) (a .state .now) short _ _ refused, refused-space (a .t) (a .list .now) (a .state .now) short _ _ refused)
 
 same-length : tie.Need-same-length
 same-length c = search needs
@@ -76,8 +68,8 @@ returns-3 c =
     let is = is-replay (c .before .before .before .before .before .before .before .before .before .before .before .before .replay .ensures) in
     let short = c .before .before .before .before .before .before .before .before .before .before .before .before .before .if1 .left in
     let played = told is ∙ c .before .before .before .before .before .before .before .before .before .answer2 .given .1 in
-    let none = not-written (a .state .now) (sym (c .before .before .r .given .1) ∙ writing-is (c .before .before .before .before .before .before .write-state .ensures .0)) in
-    (c .refused-at3 .ensures ∙ ap (λ r. refusedAt r 0) (none .1) ∙ list-unwritten (a .t) (a .list .now) (a .state .now) short _ played (none .0), c .before .before .before .before .before .before .write-state .ensures .1 ∙ ap (λ (x : Replayed). stateSpace (x .state) (a .state .now)) is ∙ list-space (a .t) (a .list .now) (a .state .now) short _ played)
+    let none = not-written 16 (a .state .now) (sym (c .before .before .r .given .1) ∙ writing-is (c .before .before .before .before .before .before .write-state .ensures .0)) in
+    (c .refused-at3 .ensures ∙ ap (λ r. refusedAt r 0) (none .1) ∙ unwritten-number 16 (a .t) (a .list .now) (a .state .now) short _ played (none .0), c .before .before .before .before .before .before .write-state .ensures .1 ∙ ap (λ (x : Replayed). stateSpace (x .state) (a .state .now)) is ∙ played-space (a .t) (a .list .now) (a .state .now) short _ played)
 
 same-length-2 : tie.Need-same-length-2
 same-length-2 c = search needs
@@ -88,8 +80,8 @@ returns-4 c =
     let is = is-replay (c .before .before .before .before .before .before .before .before .before .before .before .replay .ensures) in
     let short = c .before .before .before .before .before .before .before .before .before .before .before .before .if1 .left in
     let played = told is ∙ c .before .before .before .before .before .before .before .before .answer2 .given .1 in
-    let room = written-room (a .state .now) (sym (c .before .enum-told .given .1) ∙ writing-is (c .before .before .before .before .before .write-state .ensures .0)) in
-    (c .outcome-number .ensures ∙ list-played (a .t) (a .list .now) (a .state .now) short _ played room, c .before .before .before .before .before .write-state .ensures .1 ∙ ap (λ (x : Replayed). stateSpace (x .state) (a .state .now)) is ∙ list-space (a .t) (a .list .now) (a .state .now) short _ played)
+    let room = written-room 16 (a .state .now) (sym (c .before .enum-told .given .1) ∙ writing-is (c .before .before .before .before .before .write-state .ensures .0)) in
+    (c .outcome-number .ensures ∙ played-number 16 (a .t) (a .list .now) (a .state .now) short _ played room, c .before .before .before .before .before .write-state .ensures .1 ∙ ap (λ (x : Replayed). stateSpace (x .state) (a .state .now)) is ∙ played-space (a .t) (a .list .now) (a .state .now) short _ played)
 
 pub replay-table-spec : {M : Type 1} → statement M
 replay-table-spec =

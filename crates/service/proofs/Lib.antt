@@ -1,0 +1,5 @@
+-- Laws that several proofs cite, and the theorems.
+pub mod Balance
+pub mod Counting
+pub mod Playing
+pub mod ByteLaws
