@@ -24,6 +24,10 @@ kind #, whose line is the vector's label. The kinds:
     o  a count, a work space    copy LENGTH, or copy refused R, and the whole output in hexadecimal; then the
                                 number that the call for C programs returns, and the output that it leaves
     e  a sheet, spaces, a count evidence LENGTH, or evidence refused R; then the fields at the end
+    u  a table, masks           service kept, service missed TICK or service refused R TICK; then the state, then
+                                totals, and releases, ran and left of each of eight tasks
+    z  a sheet, a length, masks totals, the number that the call for C programs returns, and the whole totals
+                                space in hexadecimal
 
 A table is 27 bytes: policy, m, n, eight C, eight D, eight P. A state is 16 bytes: c and p of each of
 eight tasks, printed in that order. An output is filled with (i * 37 + 11) mod 256 at place i before
@@ -48,6 +52,9 @@ A file is states of 16 bytes each, or other bytes, up to the body's end; before 
 sheet after its length in a byte. A count and a work space are the count in 4 bytes, the length of the output
 in a byte, and the work space up to the body's end; the output is filled as the writer's, before each call.
 
+A sheet, a length and masks are the sheet's length in a byte, the sheet, the length of the totals space in a
+byte, and the masks up to the body's end. The totals space is filled as the writer's output.
+
 A sheet, spaces and a count are the sheet's length in a byte, the sheet, the lengths of the work space and
 of the output and the count in 4 bytes each, and a byte f. The work space is filled as that of a search, which
 then has it and a trace that is long enough; whatever it answers, states are copied out of the work space. The
@@ -60,6 +67,7 @@ output is filled as the writer's.
 """
 import sys
 from contextlib import contextmanager
+from functools import lru_cache
 from itertools import product
 from pathlib import Path
 from typing import Callable, Iterable, Iterator, NamedTuple
@@ -70,7 +78,7 @@ import reference as ref
 from reference import START, State, Table, number_bytes, sheet_bytes, table_of
 
 # The kinds whose vectors are made.
-KINDS = "nstwrkpvqcfoe"
+KINDS = "nstwrkpvqcfoeuz"
 
 FOLDER = Path(__file__).resolve().parent.parent / "crates" / "vectors"
 LONGEST_BODY = 4096  # what the program has room for
@@ -158,15 +166,18 @@ def tick_vector(label: str, table: Table, state: State, mask: int) -> Vector:
     return Vector("k", label, body, f"tick {answer} {numbers(ref.state_bytes(after))}")
 
 
-def replay_vector(label: str, table: Table, masks: bytes) -> Vector:
-    played = ref.replay(table, masks)
+def outcome(played: ref.Replayed) -> str:
+    """The answer of a replay, and its state."""
     answer = {
         "kept": "kept",
         "missed": f"missed {played.tick}",
         "refused": f"refused {played.refusal} {played.tick}",
     }[played.answer]
-    line = f"replay {answer} {numbers(ref.state_bytes(played.state))}"
-    return Vector("p", label, table_bytes(table) + masks, line)
+    return f"{answer} {numbers(ref.state_bytes(played.state))}"
+
+
+def replay_vector(label: str, table: Table, masks: bytes) -> Vector:
+    return Vector("p", label, table_bytes(table) + masks, f"replay {outcome(ref.replay(table, masks))}")
 
 
 def state_hash(state: State) -> int:
@@ -272,6 +283,29 @@ def evidence_vector(label: str, sheet: bytes, work: int, output: int, count: int
         line += f" wrong 0 digest {digest} {judged_for(sheet, file)}"
     given = b"".join(x.to_bytes(4, "little") for x in (work, output, count)) + bytes([fill])
     return Vector("e", label, bytes([len(sheet)]) + sheet + given, line)
+
+
+@lru_cache(maxsize=None)
+def balanced(table: Table, masks: bytes) -> ref.Account:
+    """A replay with its totals, which balance: a vector whose totals do not is not made. Long lists are
+    asked for several times."""
+    account = ref.service(table, masks)
+    assert ref.is_balanced(table, account.totals), (table, masks)
+    return account
+
+
+def service_vector(label: str, table: Table, masks: bytes) -> Vector:
+    played, totals = balanced(table, masks)
+    line = f"service {outcome(played)} totals {numbers(x for task in zip(*totals) for x in task)}"
+    return Vector("u", label, table_bytes(table) + masks, line)
+
+
+def totals_vector(label: str, sheet: bytes, masks: bytes, length: int) -> Vector:
+    if not ref.refusal(ref.read_sheet, sheet):
+        balanced(ref.read_sheet(sheet), masks)
+    number, after = ref.service_call(sheet, masks, filled(length, 11, 37))
+    body = bytes([len(sheet)]) + sheet + bytes([length]) + masks
+    return Vector("z", label, body, f"totals {number} {after.hex() or 'empty'}")
 
 
 # ----------------------------------------------------------------------
@@ -833,7 +867,15 @@ def shortest_miss(table: Table) -> bytes:
     raise AssertionError(table)
 
 
-def parted_replays() -> Iterator[Vector]:
+class Play(NamedTuple):
+    """A list of masks, and the table that it is played with."""
+
+    label: str
+    table: Table
+    masks: bytes
+
+
+def parted_plays() -> Iterator[Play]:
     """Lists that miss under one of earliest deadline and least slack, played under both."""
     for m, tasks, *answers in PARTED:
         tables = [table_of(policy, m, tasks) for policy in (ref.P_EDF, ref.P_LST)]
@@ -845,10 +887,10 @@ def parted_replays() -> Iterator[Vector]:
             assert (played.answer, played.tick, len(masks)) == ("missed", *[int(found.split()[1])] * 2)
             for other in tables:
                 label = f"{tasks} on {m}, a list that misses under {NAMES[table.policy]}"
-                yield replay_vector(f"{NAMES[other.policy]}: {label}", other, masks)
+                yield Play(f"{NAMES[other.policy]}: {label}", other, masks)
 
 
-def aged_replays() -> Iterator[Vector]:
+def aged_plays() -> Iterator[Play]:
     """Lists that miss in one order of equal jobs; of those that another order answers with another kind, under each policy."""
     for policy, m, tasks, was, now in AGED:
         table, lists = table_of(policy, m, tasks), {}
@@ -860,7 +902,7 @@ def aged_replays() -> Iterator[Vector]:
         turned = was.split()[0] != now.split()[0]
         for (order, masks), judge in product(lists.items(), ref.POLICIES if turned else (policy,)):
             label = f"{tasks} on {m}, a list that misses under {NAMES[policy]} {order}"
-            yield replay_vector(f"{NAMES[judge]}: {label}", changed(table, policy=judge), masks)
+            yield Play(f"{NAMES[judge]}: {label}", changed(table, policy=judge), masks)
 
 
 def replay_vectors() -> Iterator[Vector]:
@@ -884,8 +926,8 @@ def replay_vectors() -> Iterator[Vector]:
         turns = table_of(policy, 1, [(3, 9, 9), (2, 7, 7), (2, 7, 7)])
         yield replay_vector(f"{name}: three jobs whose slacks cross, three ticks", turns, bytes([7, 0, 0]))
         yield replay_vector(f"{name}: three jobs whose slacks cross, one of them twice", turns, bytes([7] + [0] * 6 + [2, 0]))
-    yield from parted_replays()
-    yield from aged_replays()
+    for plays in (parted_plays, aged_plays):
+        yield from (replay_vector(*play) for play in plays())
     # a tick number that one byte does not hold
     full = table_of(3, 1, [(2, 3, 3), (2, 3, 3)])
     yield replay_vector("a miss at tick 258", full, bytes(256) + b"\x03" + bytes(10))
@@ -1456,6 +1498,170 @@ def evidence_vectors() -> Iterator[Vector]:
 
 
 # ----------------------------------------------------------------------
+# Where the core time went
+
+# Four tasks on two cores that miss under each policy.
+LOADED = [(1, 2, 3), (2, 3, 3), (1, 2, 3), (3, 5, 5)]
+
+
+def short_plays(policy: int, name: str) -> Iterator[Play]:
+    """Lists of a few ticks: kept, missed and refused, at the first tick and later."""
+    two, full = table_of(policy, 1, TWO), table_of(policy, 1, [(2, 2, 2), (1, 2, 2)])
+    yield Play(f"{name}: the empty list", two, b"")
+    yield Play(f"{name}: nothing released", two, bytes(5))
+    yield Play(f"{name}: both, every second tick", two, bytes([3, 0] * 3))
+    yield Play(f"{name}: one at a time", two, bytes([1, 2] * 3))
+    yield Play(f"{name}: the second alone, of three", table_of(policy, 1, [(1, 2, 2), (2, 3, 4), (1, 5, 5)]), bytes([2, 0, 0, 0, 2]))
+    yield Play(f"{name}: a miss at the first tick, bytes after it", table_of(policy, 1, [(1, 1, 2), (1, 1, 2)]), bytes([3, 0, 3, 255]))
+    yield Play(f"{name}: a miss at the first tick, three of four", table_of(policy, 2, [(2, 2, 3)] * 4), bytes([13]))
+    yield Play(f"{name}: a miss at tick 2, bytes after it", full, bytes([3, 0, 3, 255]))
+    yield Play(f"{name}: a miss at tick 6", full, bytes([1, 0, 2, 0, 3, 0]))
+    yield Play(f"{name}: masks 2, 1, an urgent job", table_of(policy, 1, [(1, 1, 2), (2, 4, 4)]), bytes([2, 1]))
+    yield Play(f"{name}: a bit for no task, at tick 1", two, bytes([4, 1]))
+    yield Play(f"{name}: a bit for no task beside two tasks, at tick 1", two, bytes([7]))
+    yield Play(f"{name}: a bit for no task beside a task, at tick 2", two, bytes([1, 6, 1]))
+    yield Play(f"{name}: the highest bit, at tick 4", two, bytes([3, 0, 1, 128]))
+    yield Play(f"{name}: too early, at tick 2", table_of(policy, 1, [(1, 1, 2)]), bytes([1, 1]))
+    yield Play(f"{name}: too early beside a task that may, at tick 2", two, bytes([1, 3]))
+    yield Play(f"{name}: too early, a tick before it may", table_of(policy, 2, [(2, 5, 9), (3, 6, 7)]), bytes([3] + [0] * 6 + [3]))
+    yield Play(f"{name}: too early, with work left", full, bytes([1, 3]))
+
+
+def turn_plays(policy: int, name: str) -> Iterator[Play]:
+    """Jobs that run and wait in turn, started ones, and many of them, in lists of more and more masks."""
+    turns = table_of(policy, 1, [(3, 9, 9), (2, 7, 7), (2, 7, 7)])
+    for ticks in range(1, 9):
+        yield Play(f"{name}: three jobs whose slacks cross, up to mask {ticks}", turns, bytes([7, *[0] * 6, 2][:ticks]))
+    started = table_of(policy, 1, [(1, 4, 4), (3, 9, 9)])
+    for ticks in range(2, 6):
+        yield Play(f"{name}: a started job and a new one, up to mask {ticks}", started, bytes([2, 1, 0, 0, 0][:ticks]))
+    two_started = table_of(policy, 2, [(1, 4, 4), (3, 8, 8), (4, 9, 9), (2, 3, 6)])
+    for ticks in (2, 3, 5, 9):
+        yield Play(f"{name}: two started jobs and two new ones, up to mask {ticks}", two_started, bytes([6, 9, *[0] * 7][:ticks]))
+    eight = table_of(policy, 3, [(i, 34 - 2 * i, 42 - i) for i in range(1, 9)])
+    for ticks in (1, 7, 12):
+        yield Play(f"{name}: eight jobs, three cores, up to mask {ticks}", eight, bytes([255, *[0] * 11][:ticks]))
+    yield Play(f"{name}: more cores than tasks", table_of(policy, 8, [(2, 2, 2), (3, 3, 3)]), bytes([3, 0, 1, 2, 1, 0]))
+
+
+def wide_plays(policy: int, name: str) -> Iterator[Play]:
+    """Totals of one byte at their greatest, and of two."""
+    most = table_of(policy, 2, [(200, 200, 200), (199, 200, 200), (1, 1, 1)])
+    yield Play(f"{name}: C 200, 1 tick", most, bytes([1]))
+    yield Play(f"{name}: C 200, 199 ticks", most, bytes([3] + [0] * 198))
+    yield Play(f"{name}: C 200, twice, 255 ticks", most, bytes([1] + [0] * 199 + [1] + [0] * 54))
+    yield Play(f"{name}: C 200, twice, 256 ticks", most, bytes([1] + [0] * 199 + [1] + [0] * 55))
+    every = table_of(policy, 1, [(1, 1, 1)])
+    for ticks in (255, 256, 257, 600):
+        yield Play(f"{name}: C = D = P = 1, {ticks} ticks", every, bytes([1] * ticks))
+    yield Play(f"{name}: C = D = P = 1, refused at tick 513", every, bytes([1] * 512 + [2, 1]))
+
+
+def is_calm(table: Table, state: State) -> bool:
+    """Whether nothing is late where nothing more is released."""
+    while any(state.c):
+        _, missed, state = ref.successors(table, state)[0]  # mask 0
+        if missed:
+            return False
+    return True
+
+
+def kept_masks(dice: Dice, table: Table, length: int) -> bytes:
+    """A list that is kept, drawn: where a mask leads to a miss sooner or later, 0 takes its place."""
+    masks, state = [], START
+    for _ in range(length):
+        drawn = dice.legal_mask(table, state)
+        after = {mask: later for mask, missed, later in ref.successors(table, state) if not missed}
+        mask = drawn if drawn in after and is_calm(table, after[drawn]) else 0
+        masks.append(mask)
+        state = after[mask]
+    return bytes(masks)
+
+
+@lru_cache(maxsize=None)
+def long_plays(policy: int) -> tuple[Play, ...]:
+    """Lists of some thousand ticks, as long as a body allows: kept, missed late, and refused late for either cause. Since 200
+    ticks without a release lead to the start state, a list that misses does so after them too."""
+    table, name = table_of(policy, 2, LOADED), f"{NAMES[policy]} {LOADED}"
+    kept, miss = kept_masks(Dice(40 + policy), table, LONGEST_BODY - 27), shortest_miss(table)
+    last, plays = max(i for i in range(2500) if kept[i]), []
+    for label, masks, answer, tick in (
+        ("kept", kept, "kept", 0),
+        ("missed late", kept[:2600] + bytes(200) + miss + b"\xff\x01", "missed", 2800 + len(miss)),
+        ("too early late", kept[: last + 1] + kept[last : last + 1] + b"\x01", "refused", last + 2),
+        ("a bit for no task late", kept[:2300] + b"\x1f", "refused", 2301),
+    ):
+        played, totals = balanced(table, masks)
+        assert (played.answer, played.tick) == (answer, tick) and max(totals.ran) > 256
+        plays.append(Play(f"{name}: {label}, {len(masks)} masks", table, masks))
+    return tuple(plays)
+
+
+def refused_plays() -> Iterator[Play]:
+    """Tables that are refused, whatever the list: totals of 0."""
+    two = table_of(0, 1, TWO)
+    for masks, name in ((b"", "the empty list"), (b"\x01", "a task released"), (b"\x04", "a bit for no task")):
+        yield Play(f"policy 5, {name}", changed(two, policy=5), masks)
+        yield Play(f"m 0, {name}", changed(two, m=0), masks)
+        yield Play(f"m 9, {name}", changed(two, m=9), masks)
+        yield Play(f"n 0, {name}", changed(two, n=0), masks)
+        yield Play(f"n 9, {name}", changed(two, n=9), masks)
+        yield Play(f"C above D, {name}", changed(two, C=entry(two.C, 0, 3)), masks)
+        yield Play(f"an entry after the nth, {name}", changed(two, C=entry(two.C, 7, 1)), masks)
+
+
+def service_plays() -> Iterator[Play]:
+    for policy, name in enumerate(NAMES):
+        for plays in (short_plays, turn_plays, wide_plays):
+            yield from plays(policy, name)
+        yield from long_plays(policy)
+    yield from refused_plays()
+    yield from parted_plays()
+    yield from aged_plays()
+    dice = Dice(4)
+    for number in range(30):
+        table = dice.table((4, 12, 200)[number % 3])
+        yield Play(f"drawn {number + 1}", table, drawn_masks(dice, table, 60))
+
+
+def service_vectors() -> Iterator[Vector]:
+    yield from (service_vector(*play) for play in service_plays())
+
+
+def as_soon_as_may_be(table: Table, length: int) -> bytes:
+    """Each task released at the first tick, and whenever its gap has passed."""
+    return bytes(sum(1 << i for i in range(table.n) if tick % table.P[i] == 0) for tick in range(length))
+
+
+def totals_vectors() -> Iterator[Vector]:
+    for policy, name in enumerate(NAMES):
+        sheet = sheet_bytes(table_of(policy, 1, [(2, 2, 2), (1, 2, 2)]))
+        for (label, masks), length in product(
+            (
+                ("the empty list", []),
+                ("kept", [1]),
+                ("missed at tick 2", [3, 0, 255]),
+                ("a bit for no task, at tick 1", [4]),
+                ("too early, at tick 4", [1, 0, 2, 3]),
+            ),
+            (0, 1, 191, 192, 193, 255),
+        ):
+            yield totals_vector(f"{name}: {label}, a space of {length} bytes", sheet, bytes(masks), length)
+        eight = table_of(policy, 8, [(i, 2 * i, 2 * i + 1) for i in range(1, 9)])
+        for masks, label in ((b"", "kept"), (b"\xff", "refused")):
+            masks = as_soon_as_may_be(eight, 900 + policy) + masks
+            yield totals_vector(f"{name}: eight tasks on eight cores, {label}", sheet_bytes(eight), masks, 200)
+        label, table, masks = long_plays(policy)[policy % 4]
+        yield totals_vector(label, sheet_bytes(table), masks, 192)
+    # a sheet's refusal comes before 11 and 12, and leaves every byte
+    for number, sheet in refused_sheets(PAPER):
+        for masks, length in ((b"\x02", 0), (b"\x02", 192), (b"\x02\x04", 255)):
+            yield totals_vector(f"{number}: a space of {length} bytes", sheet, masks, length)
+    yield totals_vector("no sheet, no list, no space", b"", b"", 0)
+    yield totals_vector("the longest sheet", LONGEST, bytes([255] + [0] * 199 + [170]), 192)
+
+
+# ----------------------------------------------------------------------
 # The files
 
 MAKERS = {
@@ -1472,6 +1678,8 @@ MAKERS = {
     "f": file_vectors,
     "o": copy_vectors,
     "e": evidence_vectors,
+    "u": service_vectors,
+    "z": totals_vectors,
 }
 
 

@@ -1,6 +1,6 @@
 """An independent implementation of the verdict engine's paper (document 01), in plain Python, and of
-three changes of document 02: its closed lists (§1), its policy 4, least slack first (§3), and its
-order of jobs that are equal otherwise, by age (§4).
+four changes of document 02: its closed lists (§1), its policy 4, least slack first (§3), its order of
+jobs that are equal otherwise, by age (§4), and its totals of where the core time went (§5).
 
 It is written from the papers alone and shares nothing with the library: it is slow, direct, and
 meant to be read beside them. Each function's docstring names the section that it follows.
@@ -342,6 +342,87 @@ def replay(table: Table, masks: bytes) -> Replayed:
     return Replayed("kept", 0, 0, state)
 
 
+def replay_number(played: Replayed) -> int:
+    """The call for C: kind x 2^56 + number x 2^48 + tick, with kind 1 Kept, 2 Missed, 0 refused, where
+    the number is the refusal."""
+    kind = {"refused": 0, "kept": 1, "missed": 2}[played.answer]
+    return kind * 2**56 + played.refusal * 2**48 + played.tick
+
+
+# ----------------------------------------------------------------------
+# Where the core time went
+
+
+class Totals(NamedTuple):
+    """Document 02, §5: for each of eight tasks the number of its releases, the ticks in which it ran,
+    and the work left at the end."""
+
+    releases: tuple[int, ...]
+    ran: tuple[int, ...]
+    left: tuple[int, ...]
+
+
+class Account(NamedTuple):
+    """Document 02, §5: a replay, with the totals of the ticks played."""
+
+    played: Replayed
+    totals: Totals
+
+
+def ticks_played(played: Replayed, masks: bytes) -> int:
+    """Document 02, §5: a tick that misses is played, one that is refused with 11 is not. Of a list that
+    is kept all are, and of a table that is refused none."""
+    if played.answer == "kept":
+        return len(masks)
+    if played.answer == "missed":
+        return played.tick
+    return max(played.tick - 1, 0)
+
+
+def service(table: Table, masks: bytes) -> Account:
+    """Document 02, §5, "Where the core time went": the replay of a list, and the three totals of each
+    task. The ticks in which a task ran are read off the choices of the ticks played, not off c. Those
+    of refusal 11 are of the ticks before, and those of a table refused with 4 to 7 are 0."""
+    played = replay(table, masks)
+    releases, ran = [0] * TASKS, [0] * TASKS
+    state = START
+    for mask in masks[: ticks_played(played, masks)]:
+        released = release(table, state, mask)
+        running = choose(table, released)
+        for i in mask_tasks(mask):
+            releases[i] += 1
+        for i in running:
+            ran[i] += 1
+        state = run(released, running)
+    return Account(played, Totals(tuple(releases), tuple(ran), played.state.c))
+
+
+def is_balanced(table: Table, totals: Totals) -> bool:
+    """Document 02, §5, of each task: number of releases x C = ticks in which it ran + work left."""
+    return all(releases * C == ran + left for C, releases, ran, left in zip(table.C, *totals))
+
+
+def totals_bytes(totals: Totals) -> bytes:
+    """The call for C: the three totals of task 1, then of task 2 and so on, of 8 bytes each, low byte
+    first."""
+    return b"".join(x.to_bytes(8, "little") for task in zip(*totals) for x in task)
+
+
+def service_call(sheet: bytes, masks: bytes, space: bytes) -> tuple[int, bytes]:
+    """The call for C, given a sheet: the number of its replay, with the totals at the front of the
+    space under Kept, Missed and refusal 11; later bytes stay. "Refusals by cause": 1 to 8 by the sheet,
+    11, then 12 for a space shorter than the totals. So under 11 a shorter one stays as it was. The
+    space handed in is not changed: what it becomes is returned."""
+    try:
+        played, totals = service(read_sheet(sheet), masks)
+    except Refused as refused:
+        return refused.number * 2**48, space
+    written = totals_bytes(totals)
+    if len(space) >= len(written):
+        return replay_number(played), written + space[len(written) :]
+    return replay_number(played) if played.refusal == 11 else 12 * 2**48, space
+
+
 # ----------------------------------------------------------------------
 # The search
 
@@ -632,6 +713,38 @@ def check_age() -> None:
     assert verdict(kept, MOST_SLOTS) == ("safe", 0, 22)
 
 
+def check_service() -> None:
+    """Document 02, §5: the totals of every short list of some small tables balance, and of a list that
+    is kept they count its choices. Then a tick that misses, which counts, and refused ones, which do
+    not; a job that ran and waited in turn; and the call for C, with spaces too short and longer."""
+    tables = [(1, [(1, 2, 2), (1, 2, 2)]), (1, [(1, 1, 2), (2, 4, 4)]), (2, [(2, 3, 3), (1, 2, 2), (3, 4, 4)])]
+    for policy, (m, tasks) in product(POLICIES, tables):
+        table = table_of(policy, m, tasks)
+        for masks in product(range(2**table.n + 1), repeat=3):
+            played, totals = service(table, bytes(masks))
+            assert played == replay(table, bytes(masks)) and is_balanced(table, totals)
+            if played.answer == "kept":
+                running = list(chain.from_iterable(chosen(table, bytes(masks))))
+                assert totals.ran == tuple(map(running.count, range(TASKS)))
+    urgent, rest = table_of(NP_GFP, 1, [(1, 1, 2), (2, 4, 4)]), (0,) * 6
+    missed = Totals((1, 1, *rest), (0, 2, *rest), (1, 0, *rest))
+    assert service(urgent, bytes([2, 1, 255])) == (replay(urgent, bytes([2, 1])), missed)
+    first = Totals((0, 1, *rest), (0, 1, *rest), (0, 1, *rest))
+    assert service(urgent, bytes([2, 3])) == (("refused", 11, 2, with_jobs((0, 0), (1, 3))), first)
+    none = Totals(*[(0,) * TASKS] * 3)
+    assert [service(urgent, masks).totals for masks in (b"", b"\4", b"\5")] == [none] * 3
+    assert service(urgent._replace(m=9), b"\1") == (("refused", 5, 0, START), none)
+    turns = table_of(P_LST, 1, [(3, 9, 9), (2, 7, 7), (2, 7, 7)])
+    assert service(turns, bytes([7, 0, 0, 0])).totals[1:] == ((1, 2, 1, *rest[1:]), (2, 0, 1, *rest[1:]))
+    sheet, space = sheet_bytes(urgent), b"\xff" * 193
+    for masks, number, totals in (([2], 2**56, first), ([2, 1], 2 * 2**56 + 2, missed), ([2, 4], 11 * 2**48 + 2, first)):
+        assert service_call(sheet, bytes(masks), space) == (number, totals_bytes(totals) + b"\xff")
+        short = number if masks == [2, 4] else 12 * 2**48
+        assert service_call(sheet, bytes(masks), space[:191]) == (short, space[:191])
+    assert totals_bytes(first)[24:48] == bytes([1, *[0] * 7] * 3) and len(totals_bytes(first)) == 192
+    assert service_call(sheet[:-1], b"\4", b"") == (2**48, b"")
+
+
 def check_beside_deadlines() -> None:
     """Policy 4 beside 3, on every table of two tasks with P at most 3. On one core each of them keeps
     whatever can be kept, so neither is Safe without the other. With C = 1 for both tasks the slack is
@@ -646,7 +759,7 @@ def check_beside_deadlines() -> None:
 
 def self_check() -> None:
     """Section "Benchmark tables": every entry, starred or not. Then demand 3: the levels are those
-    that replaying every list gives. Then files of states, policy 4, and the age."""
+    that replaying every list gives. Then files of states, policy 4, the age, and the totals."""
     big = MOST_SLOTS
     two = table_of(P_GFP, 1, [(1, 2, 2), (1, 2, 2)])
     assert verdict(two, big) == ("safe", 0, 4) and verdict(two, 3) == ("room", 0, 3)
@@ -680,6 +793,7 @@ def self_check() -> None:
     check_least_slack()
     check_beside_deadlines()
     check_age()
+    check_service()
 
 
 if __name__ == "__main__":

@@ -92,6 +92,33 @@ struct bytes read_sheet(const char *path)
     return read_bytes(path, 64);
 }
 
+struct bytes read_list(const struct args *args)
+{
+    struct bytes list = {NULL, (size_t)args->count - 1};
+    list.at = space(list.len);
+    for (size_t i = 0; i < list.len; i++)
+        list.at[i] = (uint8_t)number("mask", args->at[i + 1], 255);
+    return list;
+}
+
+void read_played(const struct bytes *sheet, uint8_t *table)
+{
+    if (RONCHHEK_KIND(ronchhek_read(sheet->at, sheet->len, table, RONCHHEK_TABLE_BYTES)) != RONCHHEK_DONE)
+        fail("a sheet that was played cannot be read");
+}
+
+void print_outcome(uint64_t answer)
+{
+    unsigned refusal = RONCHHEK_REPLAY_NUMBER(answer);
+    unsigned long long tick = RONCHHEK_REPLAY_TICK(answer);
+    if (RONCHHEK_REPLAY_KIND(answer) == RONCHHEK_REPLAY_REFUSED)
+        printf(tick ? "refused %u %llu\n" : "refused %u\n", refusal, tick);
+    else if (RONCHHEK_REPLAY_KIND(answer) == RONCHHEK_REPLAY_KEPT)
+        puts("kept");
+    else
+        printf("missed %llu\n", tick);
+}
+
 const struct policy policies[POLICIES] = {
     {"NP-GFP", "fixed priority, not preempted"},
     {"P-GFP", "fixed priority, preempted"},

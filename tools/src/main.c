@@ -24,6 +24,11 @@ static const struct command {
      "    `missed T` for the tick that misses, then a line `task I c WORK-LEFT p TICKS-TO-NEXT-RELEASE` for each task; or\n"
      "    `refused R`, with the tick after it where R is 11. Masks are 0 to 255, also written 0x...\n",
      replay},
+    {"service", "SHEET [MASK ..]",
+     "    Where the core time went in a release list. Prints the first line of `replay`, then for each task how many of its jobs\n"
+     "    were released, the ticks in which it ran, the work left at the end, and how they balance: releases x C = ran + left.\n"
+     "    The tick that misses is counted. One that is refused with 11 is not, and on any other refusal there are no totals.\n",
+     service},
     {"show", "SHEET",
      "    The table of a sheet in words, or `refused R` and a line that says why.\n",
      show},

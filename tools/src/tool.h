@@ -16,6 +16,7 @@ struct args {
 bool verdict(struct args *args);
 bool evidence(struct args *args);
 bool replay(struct args *args);
+bool service(struct args *args);
 bool show(struct args *args);
 bool make(struct args *args);
 
@@ -41,6 +42,15 @@ struct bytes read_bytes(const char *path, size_t most);
 
 /* The sheet in a file or on standard input. Its first 64 bytes decide every answer, since the longest sheet has 52. */
 struct bytes read_sheet(const char *path);
+
+/* The release list that the arguments after the sheet's write, a mask each. */
+struct bytes read_list(const struct args *args);
+
+/* The table of a sheet that was played, RONCHHEK_TABLE_BYTES of it. */
+void read_played(const struct bytes *sheet, uint8_t *table);
+
+/* The first line of a replay's answer: `kept`, `missed T`, or `refused R`, with the tick after it where R is 11. */
+void print_outcome(uint64_t answer);
 
 /* Writes the states of a Safe search, those of its first `count` slots, to a file: all of them, or fails and leaves what was there. */
 void write_evidence(const char *path, const uint8_t *work, size_t work_len, size_t count);

@@ -9,6 +9,7 @@ mod space;
 mod table;
 mod text;
 mod tick;
+mod totals;
 mod verdicts;
 mod writer;
 
@@ -29,6 +30,8 @@ fn answer(kind: u8, body: &[u8]) {
         b'f' => files::judge_table(body),
         b'o' => files::copy(body),
         b'e' => files::keep(body),
+        b'u' => totals::account(body),
+        b'z' => totals::call(body),
         _ => text::unknown(),
     }
 }

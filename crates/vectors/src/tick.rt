@@ -37,7 +37,7 @@ fn print_task(c: u8, p: u8) {
 }
 
 // Prints c and p of each of the eight tasks.
-fn print(s: State) {
+pub fn print(s: State) {
     let c = s.c;
     let p = s.p;
     let mut i: usize = 0;
