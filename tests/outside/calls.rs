@@ -19,6 +19,14 @@ extern "C" {
         state: *mut u8,
         state_len: usize,
     ) -> u64;
+    fn ronchhek_service(
+        sheet: *const u8,
+        sheet_len: usize,
+        list: *const u8,
+        list_len: usize,
+        totals: *mut u8,
+        totals_len: usize,
+    ) -> u64;
     fn ronchhek_read(sheet: *const u8, sheet_len: usize, table: *mut u8, table_len: usize) -> u64;
     fn ronchhek_write(table: *const u8, table_len: usize, out: *mut u8, out_len: usize) -> u64;
     fn ronchhek_closed(sheet: *const u8, sheet_len: usize, states: *const u8, states_len: usize) -> u64;
@@ -34,6 +42,11 @@ pub fn verdict(sheet: &[u8], work: &mut [u8], trace: &mut [u8]) -> u64 {
 pub fn replay(sheet: &[u8], list: &[u8], state: &mut [u8]) -> u64 {
     let n = state.len();
     unsafe { ronchhek_replay(sheet.as_ptr(), sheet.len(), list.as_ptr(), list.len(), state.as_mut_ptr(), n) }
+}
+
+pub fn service(sheet: &[u8], list: &[u8], totals: &mut [u8]) -> u64 {
+    let n = totals.len();
+    unsafe { ronchhek_service(sheet.as_ptr(), sheet.len(), list.as_ptr(), list.len(), totals.as_mut_ptr(), n) }
 }
 
 pub fn read(sheet: &[u8], table: &mut [u8]) -> u64 {
@@ -83,7 +96,7 @@ pub fn packed_verdict(v: Result<Verdict, u8>) -> u64 {
     }
 }
 
-/// kind * 2^56 + number * 2^48 + tick.
+/// kind * 2^56 + number * 2^48 + tick, of ronchhek_replay and of ronchhek_service.
 pub fn packed_replay(r: Result<Replay, u8>) -> u64 {
     let pack = |kind: u64, number: u8, tick: usize| (kind << 56) + ((number as u64) << 48) + tick as u64;
     match r {

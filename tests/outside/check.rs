@@ -1,7 +1,7 @@
 //! What a call may leave behind: its answer and every byte that it was lent, by document 01's rules.
 
 use crate::calls::{packed_bytes, packed_closed, packed_replay, packed_verdict};
-use crate::model::{Levels, Model, Replay, State, Table, Tick, Verdict, STATE};
+use crate::model::{Levels, Model, Replay, State, Table, Tick, Totals, Verdict, STATE, TASKS, TOTALS};
 use std::collections::HashSet;
 
 pub const SLOT: usize = 24;
@@ -20,7 +20,7 @@ pub struct Searched<'a> {
     pub answer: u64,
 }
 
-/// The one space of a call of ronchhek_replay, ronchhek_read, ronchhek_write or ronchhek_states.
+/// The one space of a call of ronchhek_replay, ronchhek_service, ronchhek_read, ronchhek_write or ronchhek_states.
 pub struct Called<'a> {
     pub before: &'a [u8],
     pub after: &'a [u8],
@@ -132,10 +132,16 @@ fn written_slots(m: &Model, t: &Table, work: &[u8]) -> Result<Vec<State>, String
     Ok(states)
 }
 
-/// The outcome of a replay of this sheet, or its refusal: 12 only where the play has a state to write.
-pub fn replay_outcome(m: &Model, reading: &Result<Table, u8>, list: &[u8], state_len: usize) -> Result<Replay, u8> {
-    let t = reading.as_ref().map_err(|r| *r)?;
-    match m.replay(t, list) {
+/// A list played on a sheet, or the refusal of the sheet.
+pub type Play = Result<(Replay, Totals), u8>;
+
+pub fn play(m: &Model, reading: &Result<Table, u8>, list: &[u8]) -> Play {
+    reading.as_ref().map(|t| m.play(t, list)).map_err(|r| *r)
+}
+
+/// The outcome of a replay, or its refusal: 12 only where the play has a state to write.
+pub fn replay_outcome(m: &Model, play: &Play, state_len: usize) -> Result<Replay, u8> {
+    match (*play)?.0 {
         Replay::Illegal(tick) if state_len >= 16 || m.fault != 8 => Ok(Replay::Illegal(tick)),
         _ if state_len < 16 => Err(12),
         played => Ok(played),
@@ -157,6 +163,72 @@ pub fn replayed(outcome: Result<Replay, u8>, c: &Called) -> Result<(), String> {
         _ => 0,
     };
     same("state", &c.before[written..], &c.after[written..])
+}
+
+/// The outcome of a service, as that of a replay, and the bytes that it writes at the front of the totals space.
+pub type Service = (Result<Replay, u8>, Vec<u8>);
+
+/// Under an illegal mask the totals are those of the ticks before, and none are written where the space is too short.
+pub fn service_outcome(m: &Model, play: &Play, totals_len: usize) -> Service {
+    let (played, totals) = match play {
+        Ok((played, totals)) => (*played, totals.bytes()),
+        Err(r) => return (Err(*r), Vec::new()),
+    };
+    let short = totals_len < TOTALS;
+    match played {
+        Replay::Illegal(_) if m.fault == 32 || (short && m.fault != 30) => (Ok(played), Vec::new()),
+        _ if short && m.fault == 31 => (Err(12), totals[..totals_len].to_vec()),
+        _ if short => (Err(12), Vec::new()),
+        _ => (Ok(played), totals),
+    }
+}
+
+pub fn served((outcome, totals): &Service, c: &Called) -> Result<(), String> {
+    let expected = packed_replay(*outcome);
+    if c.answer != expected {
+        return Err(format!("service answers {:#x}, expected {expected:#x} ({outcome:?})", c.answer));
+    }
+    if let Some(at) = totals.iter().zip(c.after).position(|(a, b)| a != b) {
+        let number = ["releases", "ran", "left"][at / 8 % 3];
+        let of = format!("{number} of task {}, byte {}", at / 24 + 1, at % 8);
+        return Err(format!("{of}: {}, expected {} ({outcome:?})", c.after[at], totals[at]));
+    }
+    same("totals", &c.before[totals.len()..], &c.after[totals.len()..])
+}
+
+/// The balance of totals that were written: of each task releases * C = ran + left, and all are 0 for tasks that are not there.
+fn balanced(t: &Table, totals: &Totals) -> Result<(), String> {
+    for i in 0..TASKS {
+        let work = t.tasks.get(i).map_or(0, |task| task.work) as u128;
+        let (releases, ran, left) = (totals.releases[i] as u128, totals.ran[i] as u128, totals.left[i] as u128);
+        if releases * work != ran + left || (work == 0 && releases > 0) {
+            return Err(format!("task {}: {releases} releases of {work}, {ran} ran, {left} left", i + 1));
+        }
+    }
+    Ok(())
+}
+
+/// A service by the library's own bytes, where the spaces sufficed: its balance, and the answer and the work left of
+/// ronchhek_replay on the same list.
+pub fn beside(reading: &Result<Table, u8>, served: &Called, replayed: &Called) -> Result<(), String> {
+    if served.after.len() < TOTALS {
+        return Ok(());
+    }
+    let totals = Totals::from_bytes(served.after);
+    if let Ok(t) = reading {
+        balanced(t, &totals)?;
+    }
+    if replayed.after.len() < STATE {
+        return Ok(());
+    }
+    if served.answer != replayed.answer {
+        return Err(format!("service answers {:#x}, replay {:#x}", served.answer, replayed.answer));
+    }
+    let state = State::from_bytes(replayed.after);
+    if served.answer >> 56 != 0 && totals.left != state.left.map(u64::from) {
+        return Err(format!("the totals leave {:?}, the replay {:?}", totals.left, state.left));
+    }
+    Ok(())
 }
 
 /// What a call that writes these bytes does with a space: 12 where it is too short for them.

@@ -1,7 +1,7 @@
 /* corpus FOLDER: every line of FOLDER/cases.txt in one process, for valgrind: each space is a heap block of the exact size that
  * nothing wrote to before. The first line of a verdict must be the one expected, the list of an unsafe one must miss at its last
- * tick, the states of a search must be accepted as a file exactly when it is safe, and the table of an accepted sheet must give the
- * same sheet again. Ends with status 1 at the first difference. */
+ * tick, the states of a search must be accepted as a file exactly when it is safe, the totals of every list must balance, and the
+ * table of an accepted sheet must give the same sheet again. Ends with status 1 at the first difference. */
 #include <stdio.h>
 #include <stdlib.h>
 #include <string.h>
@@ -57,6 +57,59 @@ static void evidence(const char *name, const uint8_t *sheet, size_t len, const u
     free(shorter);
 }
 
+/* The number of 8 bytes, low byte first, at a place of the totals. */
+static uint64_t total(const uint8_t *totals, size_t at)
+{
+    uint64_t number = 0;
+    for (size_t i = 8; i-- > 0;)
+        number = number << 8 | totals[at + i];
+    return number;
+}
+
+/* A list replayed, and with totals: the same answer, but for 12 by the space, and totals that balance and leave what the state does. */
+static void service(const char *name, const uint8_t *sheet, size_t len, const uint8_t *list, size_t ticks)
+{
+    uint8_t *state = space(RONCHHEK_STATE_BYTES), *table = space(RONCHHEK_TABLE_BYTES);
+    uint8_t *totals = space(RONCHHEK_TOTALS_BYTES), *shorter = space(RONCHHEK_TOTALS_BYTES - 1);
+    uint64_t played = ronchhek_replay(sheet, len, list, ticks, state, RONCHHEK_STATE_BYTES);
+    int refused = RONCHHEK_REPLAY_KIND(played) == RONCHHEK_REPLAY_REFUSED;
+    if (ronchhek_service(sheet, len, list, ticks, totals, RONCHHEK_TOTALS_BYTES) != played)
+        fail(name, "a list with totals is answered otherwise than its replay");
+    if (ronchhek_service(sheet, len, list, ticks, shorter, RONCHHEK_TOTALS_BYTES - 1) != (refused ? played : (uint64_t)12 << 48))
+        fail(name, "a totals space too short is answered otherwise than expected");
+    if (!refused || RONCHHEK_REPLAY_NUMBER(played) == 11) {
+        ronchhek_read(sheet, len, table, RONCHHEK_TABLE_BYTES);
+        for (size_t i = 0; i < 8; i++) {
+            uint64_t releases = total(totals, 24 * i), ran = total(totals, 24 * i + 8), left = total(totals, 24 * i + 16);
+            if (releases * table[3 + 3 * i] != ran + left || (!refused && left != state[2 * i]))
+                fail(name, "the totals do not balance, or leave other work than the state");
+        }
+    }
+    free(state);
+    free(table);
+    free(totals);
+    free(shorter);
+}
+
+/* Lists of one sheet, also of a refused one: the empty one, one that releases every task whenever it may be, and that with every bit
+ * in its last mask. */
+static void services(const char *name, const uint8_t *sheet, size_t len)
+{
+    enum { LENGTH = 500 };
+    uint8_t *table = space(RONCHHEK_TABLE_BYTES), *list = space(LENGTH);
+    unsigned tasks = RONCHHEK_KIND(ronchhek_read(sheet, len, table, RONCHHEK_TABLE_BYTES)) == RONCHHEK_DONE ? table[2] : 0;
+    memset(list, 0, LENGTH);
+    for (unsigned i = 0; i < tasks; i++)
+        for (size_t tick = 0; tick < LENGTH; tick += table[3 + 3 * i + 2])
+            list[tick] |= 1 << i;
+    service(name, sheet, len, list, 0);
+    service(name, sheet, len, list, LENGTH);
+    list[LENGTH - 1] = 255;
+    service(name, sheet, len, list, LENGTH);
+    free(table);
+    free(list);
+}
+
 /* The verdict's first line, a replay of its list, and its states as a file. */
 static void judge(const char *name, const uint8_t *sheet, size_t len, size_t work_len, size_t trace_len, const char *expected)
 {
@@ -75,6 +128,7 @@ static void judge(const char *name, const uint8_t *sheet, size_t len, size_t wor
         uint64_t played = ronchhek_replay(sheet, len, trace, ticks, state, RONCHHEK_STATE_BYTES);
         if (RONCHHEK_REPLAY_KIND(played) != RONCHHEK_REPLAY_MISSED || RONCHHEK_REPLAY_TICK(played) != ticks)
             fail(name, "the list does not miss at its last tick");
+        service(name, sheet, len, trace, ticks);
     }
     if (kind != RONCHHEK_REFUSED)
         evidence(name, sheet, len, work, work_len, answer);
@@ -114,6 +168,7 @@ int main(int argc, char **argv)
         else
             judge(name, sheet, len, k * RONCHHEK_SLOT_BYTES, k, expected);
         exchange(name, sheet, len);
+        services(name, sheet, len);
         free(sheet);
         lines++;
     }

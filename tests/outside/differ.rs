@@ -1,6 +1,6 @@
 //! Differential test: the library's calls against the independent implementation of model.rs.
 //!
-//!     differ [--seed S] [--sheets N] [--case I] [--fault 1..26] [--corpus DIR]
+//!     differ [--seed S] [--sheets N] [--case I] [--fault 1..34] [--corpus DIR]
 //!
 //! Prints its seed, and at the end what was met. Ends with status 1 at the first difference.
 //! `--case I` runs that sheet of the seed alone. `--fault` seeds a mistake in the independent side.
@@ -14,6 +14,7 @@ mod files;
 mod gen;
 mod model;
 mod rng;
+mod service;
 
 use check::{Called, Searched, SLOT};
 use model::{End, Levels, Model, Replay, Table, Verdict, BY_NUMBER, POLICIES, TABLE};
@@ -219,13 +220,15 @@ impl Run {
         Ok(found)
     }
 
+    /// A list replayed, and then with totals.
     fn replay(&mut self, r: &mut Rng, s: &Subject, list: &[u8], state_len: usize) -> Result<(), String> {
         let mut state = Lent::new(r, state_len);
         let answer = calls::replay(&s.sheet, list, state.space());
         let shown = &list[..list.len().min(40)];
         let told = |e: String| format!("list of {} bytes {shown:?}, state of {state_len}: {e}", list.len());
         state.around_stays().map_err(told)?;
-        let outcome = check::replay_outcome(&self.m, &s.reading, list, state_len);
+        let play = check::play(&self.m, &s.reading, list);
+        let outcome = check::replay_outcome(&self.m, &play, state_len);
         let call = Called { before: state.was(), after: state.is(), answer };
         check::replayed(outcome, &call).map_err(told)?;
         self.met.add("calls of the replay");
@@ -238,7 +241,7 @@ impl Run {
             Ok(Replay::Illegal(_)) => "replay refused 11".to_string(),
             Err(n) => format!("replay refused {n:2}"),
         });
-        Ok(())
+        self.services(r, s, list, &play, &call).map_err(told)
     }
 
     /// A call of the reader or the writer, judged; then, now and then, one changed byte of its outcome, which must be found.
@@ -357,31 +360,6 @@ impl Run {
         Ok(())
     }
 
-    /// Legal masks while nothing is missed, then any bytes.
-    fn list(&self, r: &mut Rng, t: &Table, len: usize) -> Vec<u8> {
-        let mut list = Vec::with_capacity(len);
-        let mut s = model::State::default();
-        let mut over = false;
-        for _ in 0..len {
-            if over {
-                list.push(r.byte());
-                continue;
-            }
-            let mut mask = 0;
-            for i in 0..t.tasks.len() {
-                if s.wait[i] == 0 && !r.one_in(3) {
-                    mask |= 1 << i;
-                }
-            }
-            list.push(mask);
-            match self.m.tick(t, &s, mask) {
-                model::Tick::Next(n) => s = n,
-                _ => over = true,
-            }
-        }
-        list
-    }
-
     fn replays(&mut self, r: &mut Rng, s: &Subject, traces: &[Vec<u8>]) -> Result<(), String> {
         let mut lists: Vec<Vec<u8>> = traces.to_vec();
         lists.push(Vec::new());
@@ -392,7 +370,7 @@ impl Run {
         if let Ok(t) = &s.reading {
             for most in [4, 60] {
                 let len = r.below(most);
-                let mut list = self.list(r, t, len);
+                let mut list = gen::list(r, &self.m, t, len);
                 lists.push(list.clone());
                 if len > 0 {
                     let at = r.below(len);
@@ -693,10 +671,10 @@ impl Run {
         Ok(())
     }
 
-    /// Lists of more than 2^24 ticks, so that a tick's number needs more than 24 bits.
+    /// Lists of more than 2^24 ticks with a release at each, so that a tick's number and the totals need more than 24 bits.
     fn long_lists(&mut self, r: &mut Rng) -> Result<(), String> {
-        let s = self.subject(vec![3, 1, 1, 2, 1, 1, 2, 1, 1, 2], LIMIT);
-        let mut list = vec![0; (1 << 24) + 2];
+        let s = self.subject(vec![3, 1, 1, 2, 1, 1, 1, 1, 1, 2], LIMIT);
+        let mut list = vec![1; (1 << 24) + 2];
         self.replay(r, &s, &list, 16)?;
         list[1 << 24] = 3;
         self.replay(r, &s, &list, 16)?;
@@ -730,6 +708,10 @@ fn whole_run(run: &mut Run, seed: u64, sheets: u64) -> Result<(), String> {
         run.all_at_once(&mut r).map_err(|e| format!("all tasks at once: {e}"))?;
         run.improper_files(&mut r).map_err(|e| format!("improper files: {e}"))?;
         run.large_files(&mut r).map_err(|e| format!("large files: {e}"))?;
+        run.every_tick(&mut r).map_err(|e| format!("a release at every tick: {e}"))?;
+        for _ in 0..sheets.min(20_000) / 1000 {
+            run.thousands_of_ticks(&mut r).map_err(|e| format!("thousands of ticks: {e}"))?;
+        }
         for _ in 0..sheets.min(20_000) / 100 {
             let t = gen::tiny_table(&mut r);
             let mut masks: Vec<u8> = (0..1u8 << t.tasks.len()).collect();
@@ -775,6 +757,7 @@ fn complete(met: &Met) -> Result<(), String> {
     let mut all: Vec<String> = (1..=10).map(|n| format!("search refused {n:2}")).collect();
     all.extend([1, 2, 3, 4, 5, 6, 7, 8, 11, 12].map(|n| format!("replay refused {n:2}")));
     all.push("replay refused 11 with a state space too short".into());
+    all.extend((1..=8).map(|n| format!("service refused {n:2}")));
     all.extend([1, 2, 3, 4, 5, 6, 7, 8, 12].map(|n| format!("read refused {n:2}")));
     all.extend([1, 4, 5, 6, 7, 8, 12].map(|n| format!("write refused {n:2}")));
     all.extend([1, 2, 3, 4, 5, 6, 7, 8, 14].map(|n| format!("closed refused {n:2}")));
@@ -783,7 +766,7 @@ fn complete(met: &Met) -> Result<(), String> {
     let answers = ["Safe", "Unsafe", "No room", "replay Kept", "replay Missed", "file accepted", "file no"];
     for p in 0..POLICIES {
         all.push(format!("sheets of policy {p}"));
-        all.extend(answers.map(|answer| format!("{answer} under policy {p}")));
+        all.extend(answers.iter().chain(&service::MUST).map(|answer| format!("{answer} under policy {p}")));
     }
     all.extend(["sheets", "tables"].map(|what| format!("{what} refused 4, for policy 5")));
     all.extend(["other states", "another end"].map(|what| format!("sheets of policy 4 with {what} under policy 3")));
@@ -843,6 +826,6 @@ fn main() {
 }
 
 fn usage() -> ! {
-    eprintln!("usage: differ [--seed S] [--sheets N] [--case I] [--fault 1..26] [--corpus DIR]");
+    eprintln!("usage: differ [--seed S] [--sheets N] [--case I] [--fault 1..34] [--corpus DIR]");
     std::process::exit(2);
 }

@@ -17,7 +17,7 @@ mod model;
 mod rng;
 
 use check::{Called, Searched, SLOT};
-use model::{Model, Table, Verdict, STATE, TABLE};
+use model::{Model, Table, Verdict, STATE, TABLE, TOTALS};
 use rng::Rng;
 use std::io::Write;
 use std::sync::atomic::{AtomicU64, Ordering};
@@ -117,6 +117,7 @@ struct Spaces {
     input: Fenced,
     list: Fenced,
     state: Fenced,
+    totals: Fenced,
     work: Fenced,
     trace: Fenced,
     file: Fenced,
@@ -128,6 +129,7 @@ impl Spaces {
             input: Fenced::new(PAGE),
             list: Fenced::new(PAGE),
             state: Fenced::new(PAGE),
+            totals: Fenced::new(PAGE),
             work: Fenced::new(work),
             trace: Fenced::new(trace),
             file: Fenced::new(work / SLOT * STATE + 100),
@@ -261,6 +263,41 @@ fn evidence(r: &mut Rng, m: &Model, spaces: &Spaces, sheet: &[u8], work: &Part, 
     judge(r, m, spaces, sheet, &file, answer >> 48 == 1 && file == own)
 }
 
+/// The release list of a case: any bytes, or masks that are legal until something is missed.
+fn list(r: &mut Rng, m: &Model, reading: &Result<Table, u8>) -> Vec<u8> {
+    let most = if r.one_in(50) { PAGE } else { 40 };
+    let len = r.below(most + 1);
+    match reading {
+        Ok(t) if !r.one_in(4) => gen::list(r, m, t, len),
+        _ => {
+            let mut list = vec![0; len];
+            r.fill(&mut list);
+            list
+        }
+    }
+}
+
+/// The list replayed, and then with totals.
+fn replays(r: &mut Rng, m: &Model, spaces: &Spaces, sheet: &[u8], list: &[u8]) -> Result<(), String> {
+    let (reading, played) = (m.read_sheet(sheet), put(r, &spaces.list, list));
+    let play = check::play(m, &reading, list);
+    let state_len = r.pick(&[0, 15, 16, 16, 16, 17, 33]);
+    let (state, before) = lend(r, &spaces.state, state_len);
+    let answer = calls::replay(sheet, spaces.list.bytes(&played), spaces.state.bytes(&state));
+    let told = |e: String| format!("sheet {sheet:?}, list {list:?}, state {state_len}, answer {answer:#x}: {e}");
+    beside_stays(&spaces.state, &state).map_err(told)?;
+    let call = Called { before: &before, after: spaces.state.bytes(&state), answer };
+    check::replayed(check::replay_outcome(m, &play, state_len), &call).map_err(told)?;
+    let totals_len = r.pick(&[0, 1, 100, TOTALS - 1, TOTALS, TOTALS, TOTALS, TOTALS + 1, TOTALS + 33]);
+    let (totals, before) = lend(r, &spaces.totals, totals_len);
+    let answer = calls::service(sheet, spaces.list.bytes(&played), spaces.totals.bytes(&totals));
+    let told = |e: String| format!("sheet {sheet:?}, list {list:?}, totals {totals_len}, answer {answer:#x}: {e}");
+    beside_stays(&spaces.totals, &totals).map_err(told)?;
+    let served = Called { before: &before, after: spaces.totals.bytes(&totals), answer };
+    check::served(&check::service_outcome(m, &play, totals_len), &served).map_err(told)?;
+    check::beside(&reading, &served, &call).map_err(told)
+}
+
 fn case(r: &mut Rng, m: &Model, spaces: &Spaces, most_slots: usize, found: &mut [usize; 8]) -> Result<(), String> {
     let sheet = gen::sheet(r);
     let reading = m.read_sheet(&sheet);
@@ -293,8 +330,7 @@ fn case(r: &mut Rng, m: &Model, spaces: &Spaces, most_slots: usize, found: &mut 
         trace_after: spaces.trace.bytes(&trace),
         answer,
     };
-    let mut list = vec![0; r.below(40)];
-    r.fill(&mut list);
+    let mut list = list(r, m, &reading);
     match (&reading, check::search_refusal(&reading, work_len, trace_len)) {
         (_, Some(number)) => check::refused(number, &call).map_err(told)?,
         (Ok(t), None) => {
@@ -302,21 +338,13 @@ fn case(r: &mut Rng, m: &Model, spaces: &Spaces, most_slots: usize, found: &mut 
             check::answered(m, t, v, None, &call).map_err(told)?;
             if let Verdict::Unsafe(l, _) = v {
                 list = call.trace_after[..l.min(PAGE)].to_vec();
-            } else if r.one_in(2) {
-                list.iter_mut().for_each(|b| *b &= 1);
             }
         }
         (Err(_), None) => unreachable!(),
     }
     found[(answer >> 48) as usize] += 1;
     found[5 + evidence(r, m, spaces, spaces.input.bytes(&input), &work, answer)?] += 1;
-    let (state_len, played) = (r.pick(&[0, 15, 16, 16, 16, 17, 33]), put(r, &spaces.list, &list));
-    let (state, state_before) = lend(r, &spaces.state, state_len);
-    let answer = calls::replay(spaces.input.bytes(&input), spaces.list.bytes(&played), spaces.state.bytes(&state));
-    let told = |e: String| format!("sheet {sheet:?}, list {list:?}, state {state_len}, answer {answer:#x}: {e}");
-    beside_stays(&spaces.state, &state).map_err(told)?;
-    let call = Called { before: &state_before, after: spaces.state.bytes(&state), answer };
-    check::replayed(check::replay_outcome(m, &reading, &list, state_len), &call).map_err(told)?;
+    replays(r, m, spaces, spaces.input.bytes(&input), &list)?;
     found[4] += 1;
     exchange(r, m, spaces, &sheet, &reading)
 }
@@ -366,6 +394,7 @@ fn main() {
         "fuzz: {} searches ({safe} Safe, {miss} Unsafe, {room} No room, {refused} refused), {replays} replays",
         i - from
     );
+    println!("fuzz: as many replays with totals");
     println!("fuzz: as many copies of states and files ({accepted} accepted, {no} no, {unread} refused)");
     println!("fuzz: as many sheets read and tables written, no fault");
 }

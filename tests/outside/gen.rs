@@ -1,6 +1,6 @@
-//! Generated sheets and tables, valid and damaged.
+//! Generated sheets and tables, valid and damaged; and release lists.
 
-use crate::model::{self, Table, Task, POLICIES};
+use crate::model::{self, Model, State, Table, Task, Tick, POLICIES};
 use crate::rng::Rng;
 
 /// Numbers at and beside the limits of a sheet's fields.
@@ -38,6 +38,11 @@ fn crowded_table(r: &mut Rng) -> Table {
     let sixtieths: usize = tasks.iter().map(|t| 60 * t.work as usize / t.gap as usize).sum();
     let cores = ((sixtieths + 30) / 60).max(1) as u8;
     Table { policy: policy(r), cores, tasks }
+}
+
+/// A valid table of this policy.
+pub fn table_under(r: &mut Rng, policy: u8) -> Table {
+    Table { policy, ..table(r) }
 }
 
 /// A valid table. Most have at most some hundreds of states; some have more than any search here looks at.
@@ -213,4 +218,64 @@ pub fn sheet(r: &mut Rng) -> Vec<u8> {
         }
     }
     sheet
+}
+
+/// The release of about two in three of the tasks that may be released.
+pub fn legal_mask(r: &mut Rng, t: &Table, s: &State) -> u8 {
+    let mut mask = 0;
+    for i in 0..t.tasks.len() {
+        if s.wait[i] == 0 && !r.one_in(3) {
+            mask |= 1 << i;
+        }
+    }
+    mask
+}
+
+/// Legal masks while nothing is missed, then any bytes.
+pub fn list(r: &mut Rng, m: &Model, t: &Table, len: usize) -> Vec<u8> {
+    let mut list = Vec::with_capacity(len);
+    let mut s = State::default();
+    let mut over = false;
+    for _ in 0..len {
+        if over {
+            list.push(r.byte());
+            continue;
+        }
+        let mask = legal_mask(r, t, &s);
+        list.push(mask);
+        match m.tick(t, &s, mask) {
+            Tick::Next(next) => s = next,
+            _ => over = true,
+        }
+    }
+    list
+}
+
+/// Legal masks without a miss, on any table, and the state that they lead to: a mask is taken where the jobs are done in time when
+/// nothing more is released.
+pub fn kept_list(r: &mut Rng, m: &Model, t: &Table, len: usize) -> (Vec<u8>, State) {
+    let mut list = Vec::with_capacity(len);
+    let mut s = State::default();
+    for _ in 0..len {
+        let masks = [legal_mask(r, t, &s), legal_mask(r, t, &s), 0];
+        let taken = masks.into_iter().find_map(|mask| match m.tick(t, &s, mask) {
+            Tick::Next(next) if ends_in_time(m, t, next) => Some((mask, next)),
+            _ => None,
+        });
+        let (mask, next) = taken.expect("the jobs of the state before are done in time");
+        list.push(mask);
+        s = next;
+    }
+    (list, s)
+}
+
+/// Whether every job of a state is done in time when nothing more is released.
+fn ends_in_time(m: &Model, t: &Table, mut s: State) -> bool {
+    while s.left.iter().any(|&c| c > 0) {
+        match m.tick(t, &s, 0) {
+            Tick::Next(next) => s = next,
+            _ => return false,
+        }
+    }
+    true
 }

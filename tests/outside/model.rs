@@ -1,7 +1,7 @@
 //! The rules of document 01 written once more: sheet, table, tick, replay, and a search with plain sets; and those of document
-//! 02's closed lists (§1), least slack first (§3) and equal jobs by age (§4). Slow and direct; shares nothing with the library.
-//! Section names in the comments are document 01's. Tasks are counted from 0 here, so task i of this file is the document's
-//! task i + 1.
+//! 02's closed lists (§1), least slack first (§3) and equal jobs by age (§4); and the totals of a replay, as include/ronchhek.h
+//! has them. Slow and direct; shares nothing with the library. Section names in the comments are document 01's. Tasks are
+//! counted from 0 here, so task i of this file is the document's task i + 1.
 
 use std::collections::{HashMap, HashSet};
 
@@ -75,6 +75,51 @@ pub enum Replay {
     Illegal(usize),
 }
 
+/// Where the core time of a replay went, by task.
+#[derive(Clone, Copy, PartialEq, Eq, Debug, Default)]
+pub struct Totals {
+    /// The jobs that were released.
+    pub releases: [u64; TASKS],
+    /// The ticks in which the task was among those that ran.
+    pub ran: [u64; TASKS],
+    /// The work left at the end.
+    pub left: [u64; TASKS],
+}
+
+/// Bytes of the totals.
+pub const TOTALS: usize = 3 * 8 * TASKS;
+
+impl Totals {
+    /// The three numbers of task 1, then of task 2 and so on, each in 8 bytes, low byte first.
+    pub fn bytes(&self) -> Vec<u8> {
+        let of_task = |i| [self.releases[i], self.ran[i], self.left[i]];
+        (0..TASKS).flat_map(of_task).flat_map(u64::to_le_bytes).collect()
+    }
+
+    pub fn from_bytes(b: &[u8]) -> Totals {
+        let number = |at: usize| u64::from_le_bytes(b[at..at + 8].try_into().unwrap());
+        let mut totals = Totals::default();
+        for i in 0..TASKS {
+            totals.releases[i] = number(24 * i);
+            totals.ran[i] = number(24 * i + 8);
+            totals.left[i] = number(24 * i + 16);
+        }
+        totals
+    }
+
+    /// With one tick more, in which these were released and these ran.
+    fn count(&mut self, released: u8, ran: u8) {
+        for i in 0..TASKS {
+            self.releases[i] += (released >> i & 1) as u64;
+            self.ran[i] += (ran >> i & 1) as u64;
+        }
+    }
+
+    fn ending_in(self, s: &State) -> Totals {
+        Totals { left: s.left.map(u64::from), ..self }
+    }
+}
+
 #[derive(Clone, Copy, PartialEq, Eq, Debug)]
 pub enum Verdict {
     Safe(usize),
@@ -124,7 +169,7 @@ pub struct Model {
 pub const BY_NUMBER: u8 = 23;
 
 /// Faults that `Model` knows.
-pub const FAULTS: [&str; 26] = [
+pub const FAULTS: [&str; 34] = [
     "under NP an urgent job takes a started job's core",
     "a deadline is tested only when no time is left",
     "a task's rule is judged after all tasks",
@@ -151,6 +196,14 @@ pub const FAULTS: [&str; 26] = [
     "under fixed priority the oldest job runs first",
     "of jobs with equal time left or slack the one with the smaller p runs first",
     "the age is that of the state before the release",
+    "every task with a ready job is counted as one that ran",
+    "the runs of the tick that misses are not counted",
+    "the releases of the refused tick are counted",
+    "a short totals space is judged before the play",
+    "totals are written to a space that is too short",
+    "totals are not written under refusal 11",
+    "a run is counted where the state after a tick has less work left than the one before",
+    "the work left of a miss is that before the tick",
 ];
 
 // The sheet.
@@ -344,6 +397,11 @@ impl Model {
 
     /// "One tick", from a proper state.
     pub fn tick(&self, t: &Table, given: &State, mask: u8) -> Tick {
+        self.tick_and_choice(t, given, mask).0
+    }
+
+    /// A tick, and the tasks that run in it, a bit each.
+    fn tick_and_choice(&self, t: &Table, given: &State, mask: u8) -> (Tick, u8) {
         let n = t.tasks.len();
         let mut s = *given;
         for i in 0..TASKS {
@@ -351,7 +409,7 @@ impl Model {
                 continue;
             }
             if i >= n || s.wait[i] > 0 {
-                return Tick::Illegal;
+                return (Tick::Illegal, 0);
             }
             s.left[i] = t.tasks[i].work;
             s.wait[i] = t.tasks[i].gap;
@@ -363,11 +421,8 @@ impl Model {
         }
         let over = |i| if self.fault == 2 { time_left(t, &s, i) <= 0 } else { slack(t, &s, i) < 0 };
         let late = |i: usize| s.left[i] > 0 && over(i);
-        if (0..n).any(late) {
-            Tick::Missed(s)
-        } else {
-            Tick::Next(s)
-        }
+        let tick = if (0..n).any(late) { Tick::Missed(s) } else { Tick::Next(s) };
+        (tick, running)
     }
 
     /// "State": proper.
@@ -398,16 +453,41 @@ impl Model {
 
     /// "Replay", from the start state.
     pub fn replay(&self, t: &Table, list: &[u8]) -> Replay {
+        self.play(t, list).0
+    }
+
+    /// A replay, and where the core time went in the ticks that were played.
+    pub fn play(&self, t: &Table, list: &[u8]) -> (Replay, Totals) {
         let mut s = State::default();
+        let mut totals = Totals::default();
         let first = if self.fault == 5 { 0 } else { 1 };
         for (i, &mask) in list.iter().enumerate() {
-            match self.tick(t, &s, mask) {
+            let (tick, choice) = self.tick_and_choice(t, &s, mask);
+            let (released, ran) = self.counted(&s, mask, &tick, choice);
+            totals.count(released, ran);
+            match tick {
                 Tick::Next(next) => s = next,
-                Tick::Missed(last) => return Replay::Missed(i + first, last),
-                Tick::Illegal => return Replay::Illegal(i + first),
+                Tick::Missed(last) => {
+                    let end = if self.fault == 34 { &s } else { &last };
+                    return (Replay::Missed(i + first, last), totals.ending_in(end));
+                }
+                Tick::Illegal => return (Replay::Illegal(i + first), totals.ending_in(&s)),
             }
         }
-        Replay::Kept(s)
+        (Replay::Kept(s), totals.ending_in(&s))
+    }
+
+    /// What a tick adds to the totals, a bit for each task: the releases of its mask, and its choice. The one that misses counts,
+    /// the one that is refused does not. `given` is the state before it, which matters only where a mistake is seeded.
+    fn counted(&self, given: &State, mask: u8, tick: &Tick, choice: u8) -> (u8, u8) {
+        match (tick, self.fault) {
+            (Tick::Illegal, 29) => (mask, 0),
+            (Tick::Illegal, _) => (0, 0),
+            (Tick::Missed(_), 28) => (mask, 0),
+            (_, 27) => (mask, mask | bits(|i| given.left[i] > 0)),
+            (Tick::Next(s) | Tick::Missed(s), 33) => (mask, bits(|i| s.left[i] < given.left[i])),
+            _ => (mask, choice),
+        }
     }
 
     // The search.
@@ -483,6 +563,11 @@ impl Model {
             Tick::Illegal => true,
         })
     }
+}
+
+/// A mask of the tasks of which this holds.
+fn bits(holds: impl Fn(usize) -> bool) -> u8 {
+    (0..TASKS).filter(|&i| holds(i)).fold(0, |mask, i| mask | 1 << i)
 }
 
 /// P - p.

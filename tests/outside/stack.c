@@ -13,7 +13,7 @@ static uint8_t sheet[] = {3, 3, 2, 4, 2, 40, 60, 3, 50, 70, 4, 60, 80, 1, 3, 3};
 static const uint8_t one_state[] = {3, 1, 1, 1, 1, 1, 1}; /* its only state is the start state */
 
 struct job {
-    enum { NOTHING, VERDICT, REPLAY, READ, WRITE, STATES, ACCEPTED, NO } kind;
+    enum { NOTHING, VERDICT, REPLAY, SERVICE, READ, WRITE, STATES, ACCEPTED, NO } kind;
     uint8_t *work, *trace;
     size_t slots;          /* or the states of a file, which are start states in the work space */
     uint64_t answer;
@@ -23,11 +23,14 @@ static void *run(void *given)
 {
     struct job *job = given;
     static uint8_t state[RONCHHEK_STATE_BYTES], out[RONCHHEK_LONGEST_SHEET], table[RONCHHEK_TABLE_BYTES] = {3, 1, 1, 1, 1, 1};
+    static uint8_t totals[RONCHHEK_TOTALS_BYTES];
     static const uint8_t list[64] = {15};
     if (job->kind == VERDICT)
         ronchhek_verdict(sheet, sizeof sheet, job->work, job->slots * RONCHHEK_SLOT_BYTES, job->trace, job->slots);
     if (job->kind == REPLAY)
         ronchhek_replay(sheet, sizeof sheet, list, sizeof list, state, sizeof state);
+    if (job->kind == SERVICE)
+        ronchhek_service(sheet, sizeof sheet, list, sizeof list, totals, sizeof totals);
     if (job->kind == READ)
         ronchhek_read(sheet, sizeof sheet, table, sizeof table);
     if (job->kind == WRITE)
@@ -109,7 +112,8 @@ int main(void)
     struct job job = {NOTHING, work, trace, 0, 0};
     size_t thread = used(&job); /* what a thread itself uses */
     int status = 0;
-    static const char *const names[] = {[REPLAY] = "replay", [READ] = "read", [WRITE] = "write", [STATES] = "copy of states"};
+    static const char *const names[] = {[REPLAY] = "replay", [SERVICE] = "replay with totals", [READ] = "read", [WRITE] = "write",
+                                        [STATES] = "copy of states"};
     for (job.kind = REPLAY; job.kind <= STATES; job.kind++) {
         size_t measured = used(&job) - thread;
         printf("stack of a %s: %zu of %d\n", names[job.kind], measured, RONCHHEK_STACK_REPLAY);
