@@ -1,12 +1,14 @@
 -- Places in the order of the jobs: a walk through them makes the choice of a tick. Assumes nothing.
-use Prim.Native.Nat.{ℕ, suc, _<_}
-use mathlib.Core.Path.{_≡_, sym, _∙_}
+use Prim.Native.Nat.{ℕ, suc, _+_, _≤_, _<_}
+use mathlib.Core.Path.{_≡_, refl, sym, ap, _∙_}
 use mathlib.Core.List.{List}
-use mathlib.Core.Bool.{true, false}
+use mathlib.Core.Bool.{Bool, true, false}
 use native.Mathlib.Omega.{arith}
 use native.Mathlib.Decide.{ℕ-discrete}
-use lib.IntN.{pos}
+use lib.IntN.{ℤ, pos}
 use lib.ListN.{getD}
+use mir.Syntax.{w16}
+use mir.Val.{Fits, boolByte}
 use borrow.Author.Tests.{eq-eqb, ne-eqb, lt-ltb, le-ltb}
 use Rattle.lists.specs.Lists.{eight, count}
 use Rattle.tasks.specs.State.{notPreempted, ready, started, keeps}
@@ -18,7 +20,7 @@ use Rattle.tasks.specs.declared.table.Table.{Table}
 use Rattle.lists.proofs.Fill.{eight-at, eight-same}
 use Rattle.lists.proofs.Bools.{by-bool}
 use Rattle.lists.proofs.Counts.{count-same}
-use Rattle.lists.proofs.Turns.{count-le}
+use Rattle.lists.proofs.Turns.{count-turn, count-room, count-le}
 use Rattle.cores.proofs.RankLaws.{sooner-some}
 use Rattle.tasks.proofs.Order.{fewer-before}
 use Rattle.tasks.proofs.Choice.{in-order}
@@ -92,6 +94,25 @@ module _ (t : Table) (s : State) (places : List ℕ) (placed : Placed t s places
   unfolding keptCount
   places-kept = count-same (under places 1) (keeps t s) 8 kept-place
 
+-- ---- how many go before, counted for all tasks at once
+
+module _ (keys ages : List ℤ) where
+  pub earlier-start : eight (λ i. 0) ≡ eight (earlierIn keys ages 0)
+  unfolding earlierIn count
+  earlier-start = refl
+
+  module _ {counts : List ℕ} (j i : ℕ) (e : counts ≡ eight (earlierIn keys ages j)) (h : i < 8) where
+    earlier-read : getD counts i 0 ≡ earlierIn keys ages j i
+    earlier-read = ap (λ l. getD l i 0) e ∙ eight-at 0 (earlierIn keys ages j) i h
+
+    pub earlier-turn : {b : Bool} → b ≡ beforeIn keys ages j i → getD counts i 0 + boolByte b ≡ earlierIn keys ages (j + 1) i
+    unfolding earlierIn
+    earlier-turn is = count-turn (λ k. beforeIn keys ages k i) j earlier-read is
+
+    pub earlier-room : (b : Bool) → j ≤ 8 → Fits w16 (getD counts i 0 + boolByte b)
+    unfolding earlierIn
+    earlier-room b k = let f = count-room (λ k. beforeIn keys ages k i) b earlier-read k in omega arith
+
 -- ---- a place that says how many go before
 
 module _ (t : Table) (s : State) where
@@ -115,10 +136,18 @@ module _ (t : Table) (s : State) where
   before-in j i h k =
       rw (eight-at (pos 0) (key t s) j h, eight-at (pos 0) (key t s) i k, eight-at (pos 0) (age t s) j h, eight-at (pos 0) (age t s) i k)
 
-  -- LAW: by keys and ages made once for all tasks, as many go before
-  pub earlier-in : (i : ℕ) → i < 8 → earlierIn (eight (key t s)) (eight (age t s)) i ≡ earlier t s i
+  -- by keys and ages made once for all tasks, as many go before
+  earlier-in : (i : ℕ) → i < 8 → earlierIn (eight (key t s)) (eight (age t s)) 8 i ≡ earlier t s i
   unfolding earlierIn earlier
   earlier-in i h = count-same (λ j. beforeIn (eight (key t s)) (eight (age t s)) j i) (λ j. before t s j i) 8 (λ j k. before-in j i k h)
+
+  pub earlier-counted :
+      {counts : List ℕ} → counts ≡ eight (earlierIn (eight (key t s)) (eight (age t s)) 8) → (i : ℕ) → i < 8
+      → (getD counts i 0 ≡ earlier t s i) × (getD counts i 0 ≤ 8)
+  unfolding earlier
+  earlier-counted e i h =
+      let is = ap (λ l. getD l i 0) e ∙ eight-at 0 (earlierIn (eight (key t s)) (eight (age t s)) 8) i h ∙ earlier-in i h in
+      (is, omega (arith, is, count-le (λ j. before t s j i) 8))
 
   earlier-less : (j i : ℕ) → j < 8 → before t s j i ≡ true → earlier t s j < earlier t s i
   unfolding earlier

@@ -29,6 +29,6 @@ unfoldable pub beforeIn : List ℤ → List ℤ → ℕ → ℕ → Bool
 beforeIn keys ages j i =
     lex (getD keys j (pos 0)) (getD keys i (pos 0)) (lex (getD ages i (pos 0)) (getD ages j (pos 0)) (ltb j i))
 
--- how many tasks go before task i
-unfoldable pub earlierIn : List ℤ → List ℤ → ℕ → ℕ
-earlierIn keys ages i = count 8 (λ j. beforeIn keys ages j i)
+-- how many of the first n tasks go before task i
+unfoldable pub earlierIn : List ℤ → List ℤ → ℕ → ℕ → ℕ
+earlierIn keys ages n i = count n (λ j. beforeIn keys ages j i)

@@ -1,6 +1,6 @@
 // The choice of the running tasks, by one number a task, its place: the smaller goes first.
 ghost use mathlib.Core.Path.{_≡_};
-ghost use Prim.Native.Nat.{_<_, _≤_};
+ghost use Prim.Native.Nat.{_+_, _<_};
 ghost use Rattle.lists.specs.Lists.{eight};
 ghost use Rattle.tasks.specs.Tick.{key, age, chosen};
 ghost use Rattle.tasks.specs.Places.{place, earlierIn};
@@ -8,18 +8,32 @@ use crate::state::State;
 use crate::table::Table;
 use crate::widths::wide16;
 
-// How many tasks go before task i, by the keys and ages of all.
-fn count_earlier(keys: [i16; 8], ages: [i16; 8], i: usize) -> u16
-    requires { ⌜ i < 8 ⌝ }
-    ensures { λ r. ⌜ (r ≡ earlierIn keys ages i) × (r ≤ 8) ⌝ }
+// For each task, how many of the first j go before it, with task j counted too.
+fn count_job(counts: [u16; 8], keys: [i16; 8], ages: [i16; 8], j: usize) -> [u16; 8]
+    requires { ⌜ (j < 8) × (counts ≡ eight (earlierIn keys ages j)) ⌝ }
+    ensures { λ r. ⌜ r ≡ eight (earlierIn keys ages (j + 1)) ⌝ }
 {
-    let mut n: u16 = 0;
+    let mut out = [0u16; 8];
+    let mut i: usize = 0;
+    while i < 8 {
+        out[i] = counts[i] + (jobs::goes_before(keys[j], ages[j], j, keys[i], ages[i], i) as u16);
+        i += 1;
+    }
+    out
+}
+
+// For each task, how many go before it, by the keys and ages of all. A job is counted for all tasks at once, which the compiler makes into vectors.
+fn count_earlier(keys: [i16; 8], ages: [i16; 8]) -> [u16; 8]
+    ensures { λ r. ⌜ r ≡ eight (earlierIn keys ages 8) ⌝ }
+{
+    let mut counts = [0u16; 8];
     let mut j: usize = 0;
     while j < 8 {
-        n += jobs::goes_before(keys[j], ages[j], j, keys[i], ages[i], i) as u16;
+        let more = count_job(counts, keys, ages, j);
+        counts = more;
         j += 1;
     }
-    n
+    counts
 }
 
 impl State {
@@ -68,11 +82,12 @@ impl State {
     {
         let keys = self.keys(t);
         let ages = self.ages(t);
+        let earlier = count_earlier(keys, ages);
         let mut places = [0u16; 8];
         let mut i: usize = 0;
         while i < 8 {
             let c = self.c[i];
-            places[i] = jobs::place_of(0 < c, self.keeps(t, i), count_earlier(keys, ages, i));
+            places[i] = jobs::place_of(0 < c, self.keeps(t, i), earlier[i]);
             i += 1;
         }
         places
