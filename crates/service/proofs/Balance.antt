@@ -45,12 +45,15 @@ module _ (t : Table) (i : ℕ) (h : i < 8) (s : State) (mask : ℕ) where
       rw e (omega (arith, none, work-on t s mask i h e)))
       (λ e. rw e (omega (arith, work-off t s mask i h e)))
 
+  runs-in : runsIn t i s mask ≡ runs t (released t s mask) i
+  unfolding chosen
+  runs-in = eight-at false (runs t (released t s mask)) i h
+
   -- a task that runs was ready, and loses 1
   run-balance : getD (released t s mask .c) i 0 ≡ pick (runsIn t i s mask) 1 0 + getD (after t s mask .c) i 0
-  unfolding chosen
   run-balance =
       let r = released t s mask in
-      rw (eight-at false (runs t r) i h)
+      rw runs-in
       (by-bool (runs t r i)
       (λ e. rw e (omega (arith, runs-work t r i e, work-ran t s mask i h e)))
       (λ e. rw e (omega (arith, work-waited t s mask i h e))))
