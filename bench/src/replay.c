@@ -1,13 +1,13 @@
-/* A replay by the library beside one by the tick of plain.c, on the same lists: both must give the same answers and states, and are
-   timed in turn. Prints the nanoseconds a tick and the ratio for every policy, document 000's five tasks on three processors. With
-   BEFORE another library's ronchhek_replay, under the name before_replay, runs in turn with them, and is held against the plain tick
-   that BEFORE names, by_age or by_number. */
+/* A replay by the library, without and with the totals of each task, beside one by the tick of plain.c, on the same lists: all must give the
+   same answers and states, the totals must balance, and they are timed in turn. Prints the nanoseconds a tick and the ratio for every policy,
+   document 000's five tasks on three processors. With BEFORE another library's ronchhek_replay, under the name before_replay, runs
+   in turn with them, and is held against the plain tick that BEFORE names, by_age or by_number. */
 #include "timing.h"
 
-enum { TASKS = 5, CORES = 3, TICKS = 200000, ROUNDS = 25, FRONTS = 1000 };
+enum { TASKS = 5, CORES = 3, TICKS = 200000, ROUNDS = 25, FRONTS = 1000, STATE = 16, TOTALS = 192 };
 
 typedef uint64_t Replay(const uint8_t *sheet, size_t sheet_len, const uint8_t *list, size_t list_len, uint8_t *state, size_t state_len);
-Replay ronchhek_replay, before_replay;
+Replay ronchhek_replay, ronchhek_service, before_replay;
 
 /* A replay by a plain tick, with the answer of ronchhek_replay. */
 static uint64_t replay_by(const Counted *like, const uint8_t *sheet, size_t sheet_len, const uint8_t *list, size_t list_len, uint8_t *state)
@@ -29,16 +29,18 @@ static uint64_t plain_replay(const uint8_t *sheet, size_t sheet_len, const uint8
     return state_len < 16 ? 12ull << 48 : replay_by(&by_age, sheet, sheet_len, list, list_len, state);
 }
 
-/* Each with the plain tick that it must agree with. */
+/* Each with the plain tick that it must agree with, and with what it writes: the state or the totals. */
 static const struct {
     const char *name;
     Replay *replay;
     const Counted *like;
+    size_t size;
 } engines[] = {
-    {"library", ronchhek_replay, &by_age},
-    {"plain", plain_replay, &by_age},
+    {"library", ronchhek_replay, &by_age, STATE},
+    {"service", ronchhek_service, &by_age, TOTALS},
+    {"plain", plain_replay, &by_age, STATE},
 #ifdef BEFORE
-    {"before", before_replay, &BEFORE},
+    {"before", before_replay, &BEFORE, STATE},
 #endif
 };
 enum { ENGINES = sizeof engines / sizeof *engines };
@@ -72,15 +74,28 @@ static void make_list(uint8_t *list)
     }
 }
 
+/* The releases in the list must be those of the totals, the work left that of the state, and the ticks run what the balance makes of them. */
+static bool agrees(const uint8_t *list, size_t ticks, const uint8_t *totals, const uint8_t *state)
+{
+    for (int i = 0; i < TASKS; i++) {
+        uint64_t releases = 0, total[3];
+        for (size_t k = 0; k < ticks; k++) releases += list[k] >> i & 1;
+        memcpy(total, totals + 24 * i, sizeof total);
+        if (total[0] != releases || total[2] != state[2 * i] || total[0] * (uint64_t)(i + 1) != total[1] + total[2]) return false;
+    }
+    return true;
+}
+
 /* Each front of the list, and the whole, must be kept, with the state that the plain tick gives. */
 static void check(int e, const uint8_t *sheet, size_t sheet_len, const uint8_t *list)
 {
     for (size_t len = 0; len <= FRONTS; len++) {
-        uint8_t state[16] = {0}, expected[16] = {0};
+        uint8_t space[TOTALS] = {0}, expected[STATE] = {0};
         size_t ticks = len < FRONTS ? len : TICKS;
         if (replay_by(engines[e].like, sheet, sheet_len, list, ticks, expected) != 1ull << 56) fail("replay", "the list is not kept");
-        if (engines[e].replay(sheet, sheet_len, list, ticks, state, 16) != 1ull << 56) fail(engines[e].name, "another answer");
-        if (memcmp(state, expected, 16) != 0) fail(engines[e].name, "another state");
+        if (engines[e].replay(sheet, sheet_len, list, ticks, space, engines[e].size) != 1ull << 56) fail(engines[e].name, "another answer");
+        if (engines[e].size == STATE && memcmp(space, expected, STATE) != 0) fail(engines[e].name, "another state");
+        if (engines[e].size == TOTALS && !agrees(list, ticks, space, expected)) fail(engines[e].name, "other totals");
     }
 }
 
@@ -97,9 +112,9 @@ int main(void)
         }
         for (int round = 0; round < ROUNDS; round++)
             for (int e = 0; e < ENGINES; e++) {
-                uint8_t state[16];
+                uint8_t space[TOTALS];
                 double from = now();
-                engines[e].replay(sheet, sizeof sheet, list, TICKS, state, 16);
+                engines[e].replay(sheet, sizeof sheet, list, TICKS, space, engines[e].size);
                 double took = now() - from;
                 if (took < best[e]) best[e] = took;
             }
