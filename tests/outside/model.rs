@@ -1,5 +1,5 @@
 //! The rules of document 01 written once more: sheet, table, tick, replay, and a search with plain sets; and those of document
-//! 02's closed lists (§1), least slack first (§3) and equal jobs by age (§4); and the totals of a replay, as include/ronchhek.h
+//! 02's closed lists (§1), least slack first (§3), equal jobs by age (§4) and where the core time went (§5), in bytes as include/ronchhek.h
 //! has them. Slow and direct; shares nothing with the library. Section names in the comments are document 01's. Tasks are
 //! counted from 0 here, so task i of this file is the document's task i + 1.
 
