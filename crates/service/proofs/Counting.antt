@@ -7,7 +7,7 @@ use native.Mathlib.Omega.{arith}
 use native.Mathlib.Nat.{zero-add}
 use lib.ListN.{length, drop, getD, drop-of-length-le}
 use Rattle.lists.specs.Lists.{eight, pick}
-use Rattle.lists.proofs.Fill.{Filled, filled-end, eight-at}
+use Rattle.lists.proofs.Fill.{filled-end, eight-at}
 use Rattle.lists.proofs.Turns.{pick-most}
 use Rattle.tasks.specs.State.{start}
 use Rattle.tasks.specs.Tick.{answered, ticked}

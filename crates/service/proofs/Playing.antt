@@ -10,7 +10,7 @@ use Rattle.lists.proofs.Fill.{eight-at}
 use Rattle.tasks.specs.Table.{tableFault}
 use Rattle.tasks.specs.State.{start, improper}
 use Rattle.tasks.specs.Tick.{bit, illegal, released, chosen, ran, after, missed, answered, ticked}
-use Rattle.tasks.specs.Replay.{played, replayed}
+use Rattle.tasks.specs.Replay.{played}
 use Rattle.tasks.specs.declared.state.State.{State}
 use Rattle.tasks.specs.declared.table.Table.{Table}
 use Rattle.tasks.specs.declared.tick.TickAnswer.the-variants as Tick

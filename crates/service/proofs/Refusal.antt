@@ -1,6 +1,6 @@
 -- A list with a mask that is refused has the totals of the masks before it. Assumes nothing.
-use Prim.Native.Nat.{ℕ, zero, suc, _+_, _-_, _≤_, _<_}
-use mathlib.Core.Path.{_≡_, refl, sym, ap, _∙_}
+use Prim.Native.Nat.{ℕ, suc, _+_, _-_, _≤_, _<_}
+use mathlib.Core.Path.{_≡_, sym, ap, _∙_}
 use mathlib.Core.Bool.{Bool}
 use mathlib.Core.List.{List, [], _∷_}
 use native.Mathlib.Omega.{arith}
@@ -12,7 +12,7 @@ use Rattle.lists.proofs.Bools.{by-bool}
 use Rattle.lists.proofs.Fill.{eight-same}
 use Rattle.tasks.specs.Table.{tableFault}
 use Rattle.tasks.specs.State.{start}
-use Rattle.tasks.specs.Tick.{after, missed, refusal, ticked}
+use Rattle.tasks.specs.Tick.{after, missed, refusal}
 use Rattle.tasks.specs.Replay.{played, replayed}
 use Rattle.tasks.specs.declared.state.State.{State}
 use Rattle.tasks.specs.declared.table.Table.{Table}

@@ -1,9 +1,8 @@
 -- The invariant: the k lowest bytes are written. Assumes nothing.
 use Prim.Native.Nat.{suc, _+_, _-_, _≤_}
-use mathlib.Core.Path.{_≡_, refl, sym, ap, _∙_}
+use mathlib.Core.Path.{_≡_}
 use native.Mathlib.Omega.{arith}
 use native.Mathlib.Nat.{add-zero}
-use lib.ListN.{length}
 use Rattle.tasks.proofs.Stores.{Storing, storing-start, storing-end}
 use Rattle.service.specs.Bytes.{lowFirst}
 use Rattle.service.proofs.ByteLaws.{low-length, low-turn}

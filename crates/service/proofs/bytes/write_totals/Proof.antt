@@ -1,8 +1,7 @@
 -- Too little room, or the totals at the front of the space. Assumes nothing.
-use mathlib.Core.Path.{ap, _∙_}
+use mathlib.Core.Path.{_∙_}
 use lib.ListN.{length}
 use borrow.Author.Tests.{lt-ltb, le-ltb}
-use Rattle.tasks.specs.Answers.{writingAnswer}
 use Rattle.service.proofs.ByteLaws.{space-short, space-front}
 use borrow.Author.Needs.{needs}
 use Rattle.service.proofs.bytes.write_totals.Statement.{statement}
