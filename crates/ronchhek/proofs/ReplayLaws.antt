@@ -6,7 +6,6 @@ use native.Mathlib.Omega.{arith}
 use lib.Dec.{ltb}
 use lib.ListN.{length}
 use borrow.Author.Tests.{lt-ltb, le-ltb, le-leb, lt-leb, ltb-true, ltb-false}
-use Rattle.tasks.specs.Answers.{replayAnswer}
 use Rattle.tasks.specs.Replay.{replayed}
 use Rattle.tasks.specs.declared.table.Table.{Table}
 use Rattle.tasks.specs.declared.play.Outcome.{Outcome}
@@ -16,14 +15,10 @@ use Rattle.tasks.specs.declared.writer.Writing.the-variants as Writing
 use Rattle.lists.specs.Lists.{pick}
 use Rattle.lists.proofs.Bools.{by-bool}
 use Rattle.tasks.specs.declared.play.Replayed.{Replayed}
-use Rattle.tasks.proofs.Answers.{replay-is}
 use Rattle.search.specs.Slot.{stateSpace}
 use Rattle.ronchhek.specs.Replays.{refusedAt, outcomeNumber, tableNumber, tableSpace}
 
--- a replay is what its promise says, and so is its answer
-pub is-replay : {r q : Replayed} {A : Type 0} → (replayAnswer r ≡ replayAnswer q) × (r .state ≡ q .state) × A → r ≡ q
-is-replay e = replay-is (e .0, e .1)
-
+-- the answer of a replay that is another
 pub told : {r q : Replayed} → r ≡ q → q .answer ≡ r .answer
 told e = ap (λ (x : Replayed). x .answer) (sym e)
 

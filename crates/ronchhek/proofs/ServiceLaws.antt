@@ -1,6 +1,6 @@
 -- The totals of a replay in their space, and the balance of the call. Assumes nothing.
 use Prim.Native.Nat.{ℕ, _+_, _*_, _^_, _≤_, _<_}
-use mathlib.Core.Path.{_≡_, refl, sym}
+use mathlib.Core.Path.{_≡_, refl, sym, _∙_}
 use mathlib.Core.List.{List}
 use native.Mathlib.Omega.{arith}
 use native.Mathlib.Nat.{mul-le-mul}
@@ -37,10 +37,13 @@ module _ (t : Table) (list space : List ℕ) where
   unfolding tableTotals
   long-totals h = rw (le-leb (2 ^ 48) (length list) h)
 
-  pub table-written : tableFault t ≡ 0 → length list < 2 ^ 48 → totalsSpace (accountOf t list .totals) space ≡ tableTotals t list space
+  -- the totals that the code wrote, whatever the answer
+  pub table-written :
+      {x : Totals} {left : List ℕ} → tableFault t ≡ 0 → length list < 2 ^ 48 → x ≡ accountOf t list .totals → left ≡ totalsSpace x space
+      → left ≡ tableTotals t list space
   unfolding tableTotals
-  table-written valid short =
-      rw (lt-leb (2 ^ 48) (length list) short) (answer-written (replayed t list .answer) (accountOf t list .totals) space (replayed-eleven t valid list))
+  table-written valid short e f =
+      f ∙ rw (e, lt-leb (2 ^ 48) (length list) short) (answer-written (replayed t list .answer) (accountOf t list .totals) space (replayed-eleven t valid list))
 
 -- ---- the balance, in the bytes that the call leaves
 
@@ -82,4 +85,4 @@ unfolding callTotals
 service-balanced sheet list space byte accepted short room i h =
     let t = sheetOf sheet .table in
     let valid = read-valid sheet byte t (read-accepted (sheetOf sheet) accepted) in
-    rw (accepted, sym (table-written t list space valid short)) (bytes-balanced t valid list short i h space room)
+    rw (accepted, sym (table-written t list space valid short refl refl)) (bytes-balanced t valid list short i h space room)

@@ -2,10 +2,10 @@
 use mathlib.Core.Path.{_≡_, sym, ap, _∙_}
 use Rattle.tasks.specs.Replay.{replayTick, outcomeTick}
 use Rattle.tasks.specs.declared.play.Replayed.{Replayed}
-use Rattle.tasks.proofs.Answers.{writing-is}
+use Rattle.tasks.proofs.Answers.{replay-is, writing-is}
 use Rattle.search.specs.Slot.{stateSpace}
 use Rattle.ronchhek.specs.Replays.{refusedAt}
-use Rattle.ronchhek.proofs.ReplayLaws.{is-replay, told, not-written, written-room, long-number, refused-number, unwritten-number, played-number, long-space, refused-space, played-space}
+use Rattle.ronchhek.proofs.ReplayLaws.{told, not-written, written-room, long-number, refused-number, unwritten-number, played-number, long-space, refused-space, played-space}
 use native.Mathlib.Omega.{arith}
 use borrow.Author.Needs.{needs}
 use Rattle.ronchhek.proofs.replays.replay_table.Statement.{statement}
@@ -56,7 +56,7 @@ returns-2 : tie.Need-returns-2
 returns-2 c =
     let a = c .before .before .before .before .before .before .before .before .before .args in
     let short = c .before .before .before .before .before .before .if1 .left in
-    let refused = told (is-replay (c .before .before .before .before .before .replay .ensures)) ∙ c .before .before .answer .given .1 in
+    let refused = told (replay-is (c .before .before .before .before .before .replay .ensures .0, c .before .before .before .before .before .replay .ensures .1)) ∙ c .before .before .answer .given .1 in
     (c .refused-at2 .ensures ∙ refused-number 16 (a .t) (a .list .now) (a .state .now) short _ _ refused, refused-space (a .t) (a .list .now) (a .state .now) short _ _ refused)
 
 same-length : tie.Need-same-length
@@ -65,7 +65,7 @@ same-length c = search needs
 returns-3 : tie.Need-returns-3
 returns-3 c =
     let a = c .before .before .before .before .before .before .before .before .before .before .before .before .before .before .before .before .args in
-    let is = is-replay (c .before .before .before .before .before .before .before .before .before .before .before .before .replay .ensures) in
+    let is = replay-is (c .before .before .before .before .before .before .before .before .before .before .before .before .replay .ensures .0, c .before .before .before .before .before .before .before .before .before .before .before .before .replay .ensures .1) in
     let short = c .before .before .before .before .before .before .before .before .before .before .before .before .before .if1 .left in
     let played = told is ∙ c .before .before .before .before .before .before .before .before .before .answer2 .given .1 in
     let none = not-written 16 (a .state .now) (sym (c .before .before .r .given .1) ∙ writing-is (c .before .before .before .before .before .before .write-state .ensures .0)) in
@@ -77,7 +77,7 @@ same-length-2 c = search needs
 returns-4 : tie.Need-returns-4
 returns-4 c =
     let a = c .before .before .before .before .before .before .before .before .before .before .before .before .before .before .before .args in
-    let is = is-replay (c .before .before .before .before .before .before .before .before .before .before .before .replay .ensures) in
+    let is = replay-is (c .before .before .before .before .before .before .before .before .before .before .before .replay .ensures .0, c .before .before .before .before .before .before .before .before .before .before .before .replay .ensures .1) in
     let short = c .before .before .before .before .before .before .before .before .before .before .before .before .if1 .left in
     let played = told is ∙ c .before .before .before .before .before .before .before .before .answer2 .given .1 in
     let room = written-room 16 (a .state .now) (sym (c .before .enum-told .given .1) ∙ writing-is (c .before .before .before .before .before .write-state .ensures .0)) in

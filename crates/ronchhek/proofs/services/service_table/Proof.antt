@@ -2,7 +2,6 @@
 use mathlib.Core.Path.{_≡_, sym, ap, _∙_}
 use Rattle.tasks.specs.Replay.{replayTick, outcomeTick}
 use Rattle.tasks.proofs.Answers.{replay-is, writing-is}
-use Rattle.service.specs.Bytes.{totalsSpace}
 use Rattle.ronchhek.specs.Replays.{refusedAt}
 use Rattle.ronchhek.proofs.ReplayLaws.{told, not-written, written-room, long-number, refused-number, unwritten-number, played-number}
 use Rattle.ronchhek.proofs.ServiceLaws.{long-totals, table-written}
@@ -64,7 +63,7 @@ returns-2 c =
     let a = h .args in
     let short = c .before .before .before .before .before .before .before .before .before .before .if1 .left in
     let r = c .before .before .before .before .before .before .before .before .before .service in
-    let left = c .before .before .before .before .before .before .write-totals .ensures .1 ∙ ap (λ x. totalsSpace x (a .totals .now)) (r .ensures .2) ∙ table-written (a .t) (a .list .now) (a .totals .now) (h .pre) short in
+    let left = table-written (a .t) (a .list .now) (a .totals .now) (h .pre) short (r .ensures .2) (c .before .before .before .before .before .before .write-totals .ensures .1) in
     let refused = told (replay-is (r .ensures .0, r .ensures .1)) ∙ c .before .before .answer .given .1 in
     (c .refused-at2 .ensures ∙ refused-number 192 (a .t) (a .list .now) (a .totals .now) short _ _ refused, left)
 
@@ -77,7 +76,7 @@ returns-3 c =
     let a = h .args in
     let short = c .before .before .before .before .before .before .before .before .before .before .before .before .before .if1 .left in
     let r = c .before .before .before .before .before .before .before .before .before .before .before .before .service in
-    let left = c .before .before .before .before .before .before .before .before .before .write-totals .ensures .1 ∙ ap (λ x. totalsSpace x (a .totals .now)) (r .ensures .2) ∙ table-written (a .t) (a .list .now) (a .totals .now) (h .pre) short in
+    let left = table-written (a .t) (a .list .now) (a .totals .now) (h .pre) short (r .ensures .2) (c .before .before .before .before .before .before .before .before .before .write-totals .ensures .1) in
     let played = told (replay-is (r .ensures .0, r .ensures .1)) ∙ c .before .before .before .before .before .answer2 .given .1 in
     let none = not-written 192 (a .totals .now) (sym (c .before .before .written .given .1) ∙ writing-is (c .before .before .before .before .before .before .before .before .before .write-totals .ensures .0)) in
     (c .refused-at3 .ensures ∙ ap (λ n. refusedAt n 0) (none .1) ∙ unwritten-number 192 (a .t) (a .list .now) (a .totals .now) short _ played (none .0), left)
@@ -91,7 +90,7 @@ returns-4 c =
     let a = h .args in
     let short = c .before .before .before .before .before .before .before .before .before .before .before .before .if1 .left in
     let r = c .before .before .before .before .before .before .before .before .before .before .before .service in
-    let left = c .before .before .before .before .before .before .before .before .write-totals .ensures .1 ∙ ap (λ x. totalsSpace x (a .totals .now)) (r .ensures .2) ∙ table-written (a .t) (a .list .now) (a .totals .now) (h .pre) short in
+    let left = table-written (a .t) (a .list .now) (a .totals .now) (h .pre) short (r .ensures .2) (c .before .before .before .before .before .before .before .before .write-totals .ensures .1) in
     let played = told (replay-is (r .ensures .0, r .ensures .1)) ∙ c .before .before .before .before .answer2 .given .1 in
     let room = written-room 192 (a .totals .now) (sym (c .before .enum-told .given .1) ∙ writing-is (c .before .before .before .before .before .before .before .before .write-totals .ensures .0)) in
     (c .outcome-number .ensures ∙ played-number 192 (a .t) (a .list .now) (a .totals .now) short _ played room, left)
