@@ -22,11 +22,11 @@ extern "C" {
 
 /* Sizes.
  *
- * A slot of the work space has 24 bytes, so a work space has K = work_len / 24 slots, rounded down; slots past the
- * millionth are not used. The trace space needs K bytes. A state has 16 bytes, a table 27, the totals of a replay 192. The
- * longest sheet has 52 bytes.
+ * A slot of the work space takes 21 bytes, so a work space has K = work_len / 21 slots, rounded down, and never more than
+ * 1,000,000. The trace space needs K bytes. A state has 16 bytes, a table 27, the totals of a replay 192. The longest sheet has
+ * 52 bytes.
  */
-#define RONCHHEK_SLOT_BYTES 24
+#define RONCHHEK_SLOT_BYTES 21
 #define RONCHHEK_MOST_SLOTS 1000000
 #define RONCHHEK_STATE_BYTES 16
 #define RONCHHEK_TABLE_BYTES 27
@@ -95,17 +95,14 @@ extern "C" {
  *    6  the tasks are not 1 to 8
  *    7  a task breaks 1 <= C <= D <= P <= 200; ronchhek_write: or an entry after the last task is not 0
  *    8  bytes after the last task; ronchhek_write: the table is longer than 27 bytes (judged right after 1)
- *    9  the work space has no slot                                 (ronchhek_verdict),
- *       or fewer slots than states are asked for                   (ronchhek_states)
+ *    9  the work space has no slot                                 (ronchhek_verdict)
  *   10  the trace space is shorter than the slots are many         (ronchhek_verdict)
  *   11  a mask's bit for no task, or for a task that may not be released yet
  *                                                                  (ronchhek_replay and ronchhek_service, with the tick's number)
  *   12  the space for the outcome is too short: 16 bytes of state  (ronchhek_replay),
  *       192 bytes of totals                                        (ronchhek_service),
- *       27 bytes of table (ronchhek_read), the sheet's length      (ronchhek_write),
- *       16 bytes for each state                                    (ronchhek_states)
- *   14  the file is empty or not a whole number of states          (ronchhek_closed),
- *       or would be empty, since no state is asked for             (ronchhek_states)
+ *       27 bytes of table (ronchhek_read), the sheet's length      (ronchhek_write)
+ *   14  the file is empty or not a whole number of states          (ronchhek_closed)
  *
  * 13 is for a single state that is not proper; no call here answers it.
  */
@@ -122,10 +119,17 @@ extern "C" {
  *
  * L is 0 unless Unsafe. L is never more than K.
  *
- * work   Whatever it held before. Unless refused, its first N slots are written, one for each state: 16 state bytes, the
- *        parent's slot number in 4 bytes low byte first, the release mask, three zero bytes. Slot 0 is the start state
- *        with parent 0 and mask 0; any other slot's state is reached from its parent, an earlier slot, by one tick under
- *        its mask. No state stands twice. Every byte after the first N slots stays.
+ * work   Whatever it held before. Unless refused, its first N slots are written, one for each state, in three columns that are
+ *        laid out for all K slots, however many are written:
+ *
+ *          K states    of 16 bytes, as ronchhek_closed below has them     slot i's from byte 16 i on
+ *          K parents   slot numbers of 4 bytes, low byte first            slot i's from byte 16 K + 4 i on
+ *          K masks     release masks of 1 byte                            slot i's at byte 20 K + i
+ *
+ *        Slot 0 is the start state with parent 0 and mask 0; any other slot's state is reached from its parent, an earlier slot,
+ *        by one tick under its mask. No state stands twice. Every other byte stays: in each column those of the slots from N on,
+ *        and those after the third column, from byte 21 K on. So the first 16 N bytes are the states and nothing else: under
+ *        Safe they are the file that ronchhek_closed accepts, where they stand or kept for later.
  * trace  Under Unsafe its first L bytes are the release masks of a list that misses at tick L; the rest stays. Under Safe,
  *        No room and a refusal all of it stays.
  */
@@ -142,9 +146,16 @@ uint64_t ronchhek_verdict(const uint8_t *sheet, size_t sheet_len,
 #define RONCHHEK_TICKS(answer) ((uint32_t)((answer) >> 24 & 0xFFFFFF))
 #define RONCHHEK_COUNT(answer) ((uint32_t)((answer) & 0xFFFFFF))
 
+/* The slots of a work space, and the bytes at which the parts of slot i stand where there are K. */
+#define RONCHHEK_SLOTS(work_len) \
+    ((work_len) / RONCHHEK_SLOT_BYTES < RONCHHEK_MOST_SLOTS ? (work_len) / RONCHHEK_SLOT_BYTES : RONCHHEK_MOST_SLOTS)
+#define RONCHHEK_STATE_AT(i) (16 * (size_t)(i))
+#define RONCHHEK_PARENT_AT(K, i) (16 * (size_t)(K) + 4 * (size_t)(i))
+#define RONCHHEK_MASK_AT(K, i) (20 * (size_t)(K) + (size_t)(i))
+
 /* Evidence of Safe: whether a file shows, by itself, that no release list misses a deadline.
  *
- * A file is states of 16 bytes each, as they stand in the slots: c and p of task 1, then of task 2, .. of task 8. c is the work
+ * A file is states of 16 bytes each, as they stand in a work space: c and p of task 1, then of task 2, .. of task 8. c is the work
  * left, p the ticks until the task may be released again. The states come in any order, and one may stand there several times.
  * A file is closed when
  *
@@ -161,9 +172,10 @@ uint64_t ronchhek_verdict(const uint8_t *sheet, size_t sheet_len,
  *                     a state.
  *   kind 0, refused   N is the refusal number: 1 to 8 of the sheet, then 14.
  *
- * Whoever made an accepted file, no finite release list misses a deadline. And the file of any Safe search, its states copied
- * out by ronchhek_states, is accepted, also in another order or with repeats. So a file that is kept with a Safe can be checked
- * without the search, and without trust in whoever kept it.
+ * Whoever made an accepted file, no finite release list misses a deadline. And the states of any Safe search are accepted, also
+ * in another order or with repeats: after a Safe with N states they are the first 16 * N bytes of the work space, so
+ * ronchhek_closed(sheet, sheet_len, work, 16 * N) is accepted, and so are these bytes written to a file and read again. A file
+ * that is kept with a Safe can be checked without the search, and without trust in whoever kept it.
  *
  * Nothing is lent to write. The index over the file only guides the checker. A file made so that its states collide there takes
  * a time that is quadratic in its length, at worst; the answer is right for every file.
@@ -173,19 +185,6 @@ uint64_t ronchhek_closed(const uint8_t *sheet, size_t sheet_len,
 
 #define RONCHHEK_ACCEPTED 1
 #define RONCHHEK_NO 2
-
-/* The file of a search: the states of the first `count` slots of a work space, in their order. After a Safe with N states,
- * ronchhek_states(work, work_len, N, out, 16 * N) makes the file for ronchhek_closed. It copies what the slots hold, and judges
- * none of it.
- *
- * Returns kind * 2^48 + N:
- *
- *   kind 1, done     N = 16 * count bytes are written at the front of out; later bytes stay. (The kind is RONCHHEK_DONE.)
- *   kind 0, refused  N is the refusal number: 9 where the work space has fewer than count slots (slots past the millionth are
- *                    not counted), 12 where out is shorter than 16 * count, 14 where count is 0.
- */
-uint64_t ronchhek_states(const uint8_t *work, size_t work_len, size_t count,
-                         uint8_t *out, size_t out_len);
 
 /* The replay of a release list, one mask a tick, from the start state of a sheet's table.
  *

@@ -18,12 +18,12 @@ kind #, whose line is the vector's label. The kinds:
     v  a sheet, two spaces      search safe N, search unsafe L N, search room K or search refused R; then
                                 the fields below
     q  a sheet, two spaces      call, and the number that the call for C programs returns
+    l  a sheet, two spaces      layout, that number, and the whole work space in hexadecimal
+    e  a sheet, two spaces      evidence, and the length of the states that the search wrote, at the front of the
+                                work space; then, as a file, judged as by c
     c  a sheet, a file          closed accepted, closed no or closed refused R; then the number that the call
                                 for C programs returns
     f  a table, a file          file accepted, file no or file refused R
-    o  a count, a work space    copy LENGTH, or copy refused R, and the whole output in hexadecimal; then the
-                                number that the call for C programs returns, and the output that it leaves
-    e  a sheet, spaces, a count evidence LENGTH, or evidence refused R; then the fields at the end
     u  a table, masks           service kept, service missed TICK or service refused R TICK; then the state, then
                                 totals, and releases, ran and left of each of eight tasks
     z  a sheet, a length, masks totals, the number that the call for C programs returns, and the whole totals
@@ -38,37 +38,26 @@ of the trace space in 4 bytes each, low byte first, and a byte f. Both spaces ar
 (i * 29 + f) mod 256 at place i before the search has them. Which shortest list is given, the order of
 the slots, their parents and masks, and the states stored under room are free: so the fields after the
 search's answer are counts of what is not as it has to be, a digest that is the same in any order, and a
-replay.
+replay. Only for tables of which nothing of that is free there are vectors with the whole work space.
 
-    later X    bytes of the work space changed after the first N slots (after none if refused)
+    later X    bytes of the work space changed: of the states, of the parents and of the masks of the slots after
+               the first N (of all if refused), and after the third column, a number each
     trace X    bytes of the trace space changed after the first L (after none unless unsafe)
-    spare X    of the first N slots those with last three bytes that are not all 0 (not if refused)
     wrong X    of the first N slots those with an earlier slot's state, or with a parent or a mask that
                do not lead to their state (not if refused)
     digest X   the sum modulo 2^32 of a hash of the 16 bytes of each stored state (safe, unsafe)
     replay X   what replaying the first L bytes of the trace space answers (unsafe)
 
 A file is states of 16 bytes each, or other bytes, up to the body's end; before it stands a table, or a
-sheet after its length in a byte. A count and a work space are the count in 4 bytes, the length of the output
-in a byte, and the work space up to the body's end; the output is filled as the writer's, before each call.
+sheet after its length in a byte.
 
 A sheet, a length and masks are the sheet's length in a byte, the sheet, the length of the totals space in a
 byte, and the masks up to the body's end. The totals space is filled as the writer's output.
-
-A sheet, spaces and a count are the sheet's length in a byte, the sheet, the lengths of the work space and
-of the output and the count in 4 bytes each, and a byte f. The work space is filled as that of a search, which
-then has it and a trace that is long enough; whatever it answers, states are copied out of the work space. The
-output is filled as the writer's.
-
-    later X    bytes of the output changed after those written (after none if refused)
-    wrong X    states of the copy that are not those of the slots, each in its place (not if refused)
-    digest X   as above, of the slots whose states are copied (not if refused)
-    accepted, no, refused R: how the copy is judged for the sheet (not if its own answer is a refusal)
 """
 import sys
 from contextlib import contextmanager
 from functools import lru_cache
-from itertools import product
+from itertools import islice, product
 from pathlib import Path
 from typing import Callable, Iterable, Iterator, NamedTuple
 
@@ -78,12 +67,11 @@ import reference as ref
 from reference import START, State, Table, number_bytes, sheet_bytes, table_of
 
 # The kinds whose vectors are made.
-KINDS = "nstwrkpvqcfoeuz"
+KINDS = "nstwrkpvqlecfuz"
 
 FOLDER = Path(__file__).resolve().parent.parent / "crates" / "vectors"
 LONGEST_BODY = 4096  # what the program has room for
 WORK, TRACE = 65_520, 8_192  # the longest spaces that the program has
-KEPT_WORK, KEPT_OUTPUT = 8_192, 4_096  # the same where states are copied out after a search
 
 
 class Vector(NamedTuple):
@@ -195,9 +183,9 @@ def search_body(sheet: bytes, work: int, trace: int, fill: int) -> bytes:
 
 def search_vector(label: str, sheet: bytes, work: int, trace: int, fill: int) -> Vector:
     found = ref.search_sheet(sheet, work, trace)
-    line = f"search {found.kind} " + (f"{found.L} " if found.kind == "unsafe" else "") + f"{found.N} later 0 trace 0"
+    line = f"search {found.kind} " + (f"{found.L} " if found.kind == "unsafe" else "") + f"{found.N} later 0 0 0 0 trace 0"
     if found.kind != "refused":
-        line += " spare 0 wrong 0"
+        line += " wrong 0"
     if found.kind in ("safe", "unsafe"):
         stored = ref.stored_states(ref.read_sheet(sheet), found)
         assert len(stored) == found.N
@@ -210,6 +198,29 @@ def search_vector(label: str, sheet: bytes, work: int, trace: int, fill: int) ->
 def call_vector(label: str, sheet: bytes, work: int, trace: int, fill: int) -> Vector:
     number = ref.verdict_number(ref.search_sheet(sheet, work, trace))
     return Vector("q", label, search_body(sheet, work, trace, fill), f"call {number}")
+
+
+def only_slots(table: Table, found: ref.Verdict) -> list[ref.Slot]:
+    """The slots that a search writes, of a table that leaves nothing of them free: each level has one state, to which
+    one slot leads under one mask."""
+    written = [ref.Slot(START, 0, 0)]
+    for level in ref.levels(table):
+        if len(written) < found.N and level.ticks:
+            (state,) = level.reached - {slot.state for slot in written}
+            ((parent, mask),) = ref.leading(table, written, state)
+            written.append(ref.Slot(state, parent, mask))
+    assert len(written) == found.N and ref.keeps_rule(table, written)
+    return written
+
+
+def layout_vector(label: str, sheet: bytes, work: int, trace: int, fill: int) -> Vector:
+    found, space = ref.search_sheet(sheet, work, trace), filled(work, fill, 29)
+    if found.kind != "refused":
+        slots = only_slots(ref.read_sheet(sheet), found)
+        space = ref.write_slots(space, slots)
+        assert ref.read_slots(space, found.N) == slots
+    line = f"layout {ref.verdict_number(found)} {space.hex() or 'empty'}"
+    return Vector("l", label, search_body(sheet, work, trace, fill), line)
 
 
 def judged(table: Table, file: bytes) -> str:
@@ -233,23 +244,6 @@ def file_vector(label: str, table: Table, file: bytes) -> Vector:
     return Vector("f", label, table_bytes(table) + file, f"file {judged(table, file)}")
 
 
-def copied(work: bytes, count: int, output: bytes) -> tuple[str, bytes]:
-    """The answer of the copy, and the output after it."""
-    try:
-        length, output = ref.copy_states(work, count, output)
-        return f"{length}", output
-    except ref.Refused as refused:
-        return f"refused {refused.number}", output
-
-
-def copy_vector(label: str, work: bytes, count: int, length: int) -> Vector:
-    output = filled(length, 11, 37)
-    answer, after = copied(work, count, output)
-    left = after.hex() or "empty"
-    line = f"copy {answer} {left} {ref.copied_number(work, count, output)} {left}"
-    return Vector("o", label, count.to_bytes(4, "little") + bytes([length]) + work, line)
-
-
 def by_level(table: Table) -> list[State]:
     """The states that lists reach, up to the level before a miss, in the order of the ticks that they take."""
     states: list[State] = []
@@ -258,31 +252,19 @@ def by_level(table: Table) -> list[State]:
     return states
 
 
-def searched(sheet: bytes, work: bytes, count: int) -> bytes:
-    """A work space after its search, as far as its first `count` states and its bytes after the slots written tell.
-    No state of d + 1 ticks is stored while one of d ticks is still to be tried for a miss, so the slots are in the
-    order of the levels. Within a level it is free: then `count` has to be such that the order does not matter."""
-    found = ref.search_sheet(sheet, len(work), TRACE)
+def evidence_vector(label: str, sheet: bytes, work: int, trace: int, fill: int) -> Vector:
+    """The states that a search writes are a closed file under safe alone. Under room they are free, but lack one that
+    lists reach."""
+    found = ref.search_sheet(sheet, work, trace)
     if found.kind == "refused":
-        return work
-    table = ref.read_sheet(sheet)
-    if 0 < count <= ref.slots(len(work)):
-        assert min(count, found.N) in {len(level.reached) for level in ref.levels(table)}
-    slots = [ref.state_bytes(state) + bytes(8) for state in by_level(table)[: found.N]]
-    return b"".join(slots) + work[24 * found.N :]
-
-
-def evidence_vector(label: str, sheet: bytes, work: int, output: int, count: int, fill: int) -> Vector:
-    assert work <= KEPT_WORK and output <= KEPT_OUTPUT
-    space = searched(sheet, filled(work, fill, 29), count)
-    answer, after = copied(space, count, filled(output, 11, 37))
-    line = f"evidence {answer} later 0"
-    if not answer.startswith("refused"):
-        file = after[: int(answer)]
-        digest = sum(map(state_hash, ref.file_states(file))) % 2**32
-        line += f" wrong 0 digest {digest} {judged_for(sheet, file)}"
-    given = b"".join(x.to_bytes(4, "little") for x in (work, output, count)) + bytes([fill])
-    return Vector("e", label, bytes([len(sheet)]) + sheet + given, line)
+        length, line = 0, f"{judged_for(sheet, b'')} {ref.closed_number(sheet, b'')}"
+    elif found.kind == "room":
+        length, line = 16 * found.N, f"no {2 * 2**48}"
+    else:
+        file = ref.file_of(ref.stored_states(ref.read_sheet(sheet), found))
+        assert ref.closed(ref.read_sheet(sheet), file) == (found.kind == "safe")
+        length, line = len(file), f"{judged_for(sheet, file)} {ref.closed_number(sheet, file)}"
+    return Vector("e", label, search_body(sheet, work, trace, fill), f"evidence {length} {line}")
 
 
 @lru_cache(maxsize=None)
@@ -997,7 +979,11 @@ class Search(NamedTuple):
 
     def with_slots(self, K: int) -> "Search":
         """The same with K slots, and no byte more than it takes."""
-        return self._replace(label=f"{self.label}, K {K}", work=24 * K, trace=K)
+        return self._replace(label=f"{self.label}, K {K}", work=ref.SLOT * K, trace=K)
+
+    def with_rest(self, rest: int) -> "Search":
+        """The same with some bytes more of work, which make no slot, and other bytes there before."""
+        return self._replace(label=f"{self.label} and {rest} bytes", work=self.work + rest, fill=(self.fill + 11 * rest) % 256)
 
 
 def of_table(label: str, policy: int, m: int, tasks: list[tuple[int, int, int]]) -> Search:
@@ -1032,15 +1018,46 @@ def space_searches() -> Iterator[Search]:
     """The lengths of the spaces, and what they held before."""
     paper = Search("the paper's sheet", PAPER)
     two = of_table("two tasks", 1, 1, TWO)
-    for work, trace in ((0, 0), (0, TRACE), (1, 1), (23, 5), (24, 0), (24, 1), (47, 1), (48, 1), (48, 2)):
+    for work, trace in ((0, 0), (0, TRACE), (1, 1), (20, 5), (21, 0), (21, 1), (41, 1), (42, 1), (42, 2)):
         yield two._replace(label=f"two tasks, work {work}, trace {trace}", work=work, trace=trace)
-    for work, trace in ((95, 3), (95, 4), (96, 3), (96, 4), (96, 5), (97, 4), (119, 4), (119, 100), (120, 4)):
+    for work, trace in ((83, 3), (83, 4), (84, 3), (84, 4), (84, 5), (85, 4), (104, 4), (104, 100), (105, 4), (105, 5)):
         yield paper._replace(label=f"the paper's sheet, work {work}, trace {trace}", work=work, trace=trace)
-    yield paper._replace(label="the paper's sheet, a trace one too short for K", trace=2729)
-    yield paper._replace(label="the paper's sheet, a trace just long enough for K", trace=2730)
+    yield paper._replace(label="the paper's sheet, a trace one too short for K", trace=3119)
+    yield paper._replace(label="the paper's sheet, a trace just long enough for K", trace=3120)
     for fill in (0, 1, 128, 255):
         yield paper._replace(label=f"the paper's sheet, spaces filled from {fill}", fill=fill)
-        yield two._replace(label=f"two tasks, spaces filled from {fill}", fill=fill, work=5 * 24 + 7, trace=9)
+        yield two._replace(label=f"two tasks, spaces filled from {fill}", fill=fill, work=5 * 21 + 7, trace=9)
+
+
+def rest_searches() -> Iterator[Search]:
+    """Every number of bytes that the slots leave: one slot, fewer than there are states, as many, one more, many."""
+    both = of_table("two urgent jobs", 1, 1, [(1, 1, 2)] * 2)
+    paper, two = Search("the paper's sheet", PAPER), of_table("two tasks", 1, 1, TWO)
+    for search, slots in ((both, (1, 2)), (paper, (1, 3, 4, 5)), (two, (1, 3, 4, 5, 40))):
+        for K, rest in product(slots, range(ref.SLOT)):
+            yield search.with_slots(K).with_rest(rest)
+
+
+# Tables whose states fill most of the longest work space, or more than it has: the policy, the cores, the tasks, and how they are
+# answered there; the first three are one of each kind. In 01 the same space had 2,730 slots, too few for each of them.
+FILLING = [
+    (0, 1, [(1, 37, 37), (37, 38, 38)], "unsafe 1370 2739"),
+    (3, 1, [(2, 9, 52), (3, 9, 56)], "safe 2912"),
+    (4, 2, [(1, 1, 53), (1, 1, 59)], "room 3120"),
+    (0, 1, [(1, 39, 39), (39, 40, 40)], "unsafe 1522 3043"),
+    (0, 1, [(1, 40, 40), (40, 41, 41)], "room 3120"),
+    (1, 2, [(1, 1, 48), (1, 1, 57)], "safe 2736"),
+    (2, 2, [(1, 1, 54), (1, 1, 55)], "safe 2970"),
+    (3, 2, [(1, 1, 52), (1, 1, 60)], "safe 3120"),
+]
+
+
+def filling_searches() -> Iterator[Search]:
+    for policy, m, tasks, expected in FILLING:
+        search = of_table(f"{NAMES[policy]} {tasks} on {m}", policy, m, tasks)
+        assert answer(ref.search_sheet(search.sheet, WORK, TRACE)) == expected, search.label
+        assert ref.search_sheet(search.sheet, 2730 * ref.SLOT, TRACE).kind == "room", search.label
+        yield search
 
 
 def refused_sheets(sheet: bytes) -> tuple[tuple[int, bytes], ...]:
@@ -1076,7 +1093,7 @@ def policy_searches() -> Iterator[Search]:
         three = of_table(f"{name}, three tasks on two cores", policy, 2, [(2, 3, 4), (1, 4, 5), (1, 5, 6)])
         N = count_of(three)
         yield three
-        yield three.with_slots(N - 1)._replace(work=24 * N - 1)
+        yield three.with_slots(N - 1).with_rest(ref.SLOT - 1)
         yield of_table(f"{name}, a task that fits a slot", policy, 1, [(1, 1, 1)]).with_slots(1)
         # C = i, D = P = 2(i + 1)
         steps = [(i, 2 * i + 2, 2 * i + 2) for i in range(1, 5)]
@@ -1132,15 +1149,17 @@ def aged_searches() -> Iterator[Search]:
 
 def search_vectors() -> Iterator[Vector]:
     by_table = (policy_searches, miss_searches, parted_searches, aged_searches)
-    for searches in (benchmark_searches, space_searches, refused_searches, *by_table):
+    for searches in (benchmark_searches, space_searches, rest_searches, refused_searches, *by_table):
         yield from (search_vector(*search) for search in searches())
+    # few of them, since the program compares the state of each slot with that of each earlier one
+    yield from (search_vector(*search) for search in islice(filling_searches(), 3))
 
 
 def call_searches() -> Iterator[Search]:
     yield from benchmark_searches()
     yield from (search for search in refused_searches() if not search.work)
     paper = Search("the paper's sheet", PAPER)
-    for work, trace in ((0, 0), (23, 1), (24, 0), (24, 1), (95, 3), (96, 4)):
+    for work, trace in ((0, 0), (20, 1), (21, 0), (21, 1), (83, 3), (84, 4)):
         yield paper._replace(label=f"the paper's sheet, work {work}, trace {trace}", work=work, trace=trace)
     for policy, name in enumerate(NAMES):
         yield of_table(f"{name}, four tasks of document 000", policy, 2, [(i, 2 * i + 2, 2 * i + 2) for i in range(1, 5)])
@@ -1148,10 +1167,38 @@ def call_searches() -> Iterator[Search]:
     for policy, m, tasks, was, now in AGED:
         if was.split()[0] != now.split()[0]:
             yield of_table(f"{NAMES[policy]} {tasks} on {m}, by age", policy, m, tasks)
+    for search in filling_searches():
+        yield from (search, search.with_slots(2730))
 
 
 def call_vectors() -> Iterator[Vector]:
     yield from (call_vector(*search) for search in call_searches())
+
+
+def layout_searches() -> Iterator[Search]:
+    """Tables that leave nothing free: one task, whose states follow each other, and jobs that miss at the first tick. With
+    fewer slots than states, as many, and more; with no byte that makes no slot, and with each number of them."""
+    for policy, name in enumerate(NAMES):
+        short = of_table(f"{name}, a task of 3 states", policy, 1, [(1, 1, 3)])
+        started = of_table(f"{name}, a task of 7 states", policy, 2, [(3, 5, 7)])
+        both = of_table(f"{name}, two urgent jobs", policy, 1, [(1, 1, 2)] * 2)
+        for search, slots in ((short, (1, 2, 3, 4, 9)), (started, (6, 7, 8)), (both, (1, 2, 5))):
+            yield from (search.with_slots(K).with_rest((4 * K + policy) % ref.SLOT) for K in slots)
+    short = of_table("a task of 3 states", 0, 1, [(1, 1, 3)])
+    for K, rest in product((1, 2, 3, 5), range(ref.SLOT)):
+        yield short.with_slots(K).with_rest(rest)
+    for fill in (0, 1, 128, 255):
+        yield short.with_slots(6)._replace(label=f"a task of 3 states, spaces filled from {fill}", fill=fill)
+    long_gap = of_table("a task of 200 states", 3, 1, [(1, 1, 200)])
+    yield from (long_gap.with_slots(K).with_rest(17) for K in (199, 200, 230))
+    # refused: every byte stays
+    for work, trace in ((0, 0), (20, 9), (21, 0), (64, 2), (83, 0)):
+        yield short._replace(label=f"a task of 3 states, work {work}, trace {trace}", work=work, trace=trace)
+    yield from (Search(f"refusal {number}", sheet, 50 + number, 9, 17 * number) for number, sheet in refused_sheets(PAPER))
+
+
+def layout_vectors() -> Iterator[Vector]:
+    yield from (layout_vector(*search) for search in layout_searches())
 
 
 # ----------------------------------------------------------------------
@@ -1440,61 +1487,35 @@ def file_vectors() -> Iterator[Vector]:
         yield file_vector(label, table, data)
 
 
-def copy_vectors() -> Iterator[Vector]:
-    """Copies out of a work space whose bytes are all known."""
-    work = filled(5 * 24 + 7, 3, 7)
-    for count in (0, 1, 2, 4, 5, 6):
-        for length in sorted({0, 15, 16 * count, 16 * count + 1, 255} | ({16 * count - 1} if count else set())):
-            yield copy_vector(f"{count} of 5 slots into {length} bytes", work, count, length)
-    for size in (0, 1, 16, 23, 24, 25, 47, 48):
-        for count in (0, 1, 2):
-            yield copy_vector(f"{count} of a work space of {size} bytes", filled(size, 200, 31), count, 33)
-    for count in (255, 256, 261, 65_536, 65_541, 999_999, 1_000_000, 1_000_001, 2**24 + 5, 2**31, 2**32 - 1):
-        yield copy_vector(f"{count} of 5 slots", work, count, 100)
-    more = filled(24 * 20, 1, 5)
-    for count, length in ((15, 239), (15, 240), (15, 255), (16, 255), (20, 255), (21, 255)):
-        yield copy_vector(f"{count} of 20 slots into {length} bytes", more, count, length)
-
-
-def kept_copies(label: str, search: Search, K: int, counts: Iterable[int]) -> Iterator[Vector]:
-    """Copies after a search with K slots and some bytes, into an output just long enough, longer, and a byte short."""
-    work = 24 * K + (7 * K) % 24
-    for count in counts:
-        for length in (16 * count, 16 * count + 21, 16 * count - 1):
-            if 0 <= length:
-                name = f"{label}, K {K}: {count} states into {length} bytes"
-                yield evidence_vector(name, search.sheet, work, length, count, search.fill)
+def evidence_searches() -> Iterator[Search]:
+    """Safe with as many slots as states and with more, so that the other columns stand after them or further on; then Unsafe, No
+    room and refusals."""
+    for policy, name in enumerate(NAMES):
+        two = of_table(f"{name}, two tasks", policy, 1, TWO)
+        more = of_table(f"{name}, (2,6,6),(2,4,4)", policy, 1, [(2, 6, 6), (2, 4, 4)])
+        unsafe = of_table(f"{name}, unsafe", policy, 1, [(2, 2, 2), (1, 2, 2)])
+        one = of_table(f"{name}, one state", policy, 1, [(1, 1, 1)])
+        for search in (two, more, unsafe, one):
+            N = count_of(search)
+            yield from (search.with_slots(K).with_rest((7 * K) % ref.SLOT) for K in (N - 1, N, N + 1, N + 150) if K)
+        yield of_table(f"{name}, three tasks on two cores", policy, 2, [(2, 3, 4), (1, 4, 5), (1, 5, 6)])
+    for policy, m, tasks, _, now in AGED:
+        if now.startswith("safe") and int(now.split()[1]) <= 60:
+            aged = of_table(f"{NAMES[policy]} {tasks} on {m}, by age", policy, m, tasks)
+            yield from (aged, aged.with_slots(count_of(aged)))
+    paper, long_gap = Search("the paper's sheet, unsafe", PAPER), of_table("200 states", 1, 1, [(1, 1, 200)])
+    yield from (paper, paper.with_slots(3), paper.with_slots(4))
+    yield from (long_gap, long_gap.with_slots(200), long_gap.with_slots(199))
+    yield from filling_searches()
+    for number, sheet in refused_sheets(PAPER):
+        yield Search(f"refusal {number}", sheet, 90, 9, number)
+    two = of_table("two tasks", 1, 1, TWO)
+    for work, trace in ((0, 0), (20, 1), (21, 0), (21, 1), (84, 3)):
+        yield two._replace(label=f"two tasks, work {work}, trace {trace}", work=work, trace=trace)
 
 
 def evidence_vectors() -> Iterator[Vector]:
-    for policy, name in enumerate(NAMES):
-        two = of_table(f"{name}, two tasks", policy, 1, TWO)
-        yield from kept_copies(two.label, two, 4, (0, 1, 4, 5))
-        yield from kept_copies(two.label, two, 6, (4, 5, 6, 7))
-        yield from kept_copies(f"{two.label}, no room", two, 3, (1, 4))
-        more = of_table(f"{name}, 24 states", policy, 1, [(2, 6, 6), (2, 4, 4)])
-        N = count_of(more)
-        yield from kept_copies(more.label, more, N, (1, N, N + 1))
-        yield from kept_copies(more.label, more, 170, (N, 170, 171))
-        unsafe = of_table(f"{name}, unsafe", policy, 1, [(2, 2, 2), (1, 2, 2)])
-        yield from kept_copies(unsafe.label, unsafe, 10, (1, count_of(unsafe), 10, 11))
-        yield from kept_copies(f"{name}, one state", of_table("", policy, 1, [(1, 1, 1)]), 1, (0, 1, 2))
-    for policy, m, tasks, _, now in AGED:
-        if now.startswith("safe") and (N := int(now.split()[1])) <= 60:
-            aged = of_table(f"{NAMES[policy]} {tasks} on {m}, by age", policy, m, tasks)
-            yield from kept_copies(aged.label, aged, N, (N,))
-    paper = Search("the paper's sheet, unsafe", PAPER)
-    yield from kept_copies(paper.label, paper, 5, (1, 4, 5, 6))
-    # a state a level, so that the order of the slots is known
-    long_gap = of_table("200 states", 1, 1, [(1, 1, 200)])
-    yield from kept_copies(long_gap.label, long_gap, 200, (1, 2, 100, 199, 200, 201))
-    yield from kept_copies(long_gap.label, long_gap, 340, (200, 250))
-    yield from kept_copies(f"{long_gap.label}, no room", long_gap, 199, (1, 150, 199, 200))
-    # the bytes that were there are copied where there was no search
-    for number, sheet in refused_sheets(PAPER):
-        yield from kept_copies(f"refusal {number}", Search("", sheet), 2, (2, 3))
-    for work, count in ((0, 0), (0, 1), (23, 1), (24, 1)):
-        yield evidence_vector(f"two tasks, work {work}: {count} states", sheet_bytes(table_of(1, 1, TWO)), work, 40, count, 90)
+    yield from (evidence_vector(*search) for search in evidence_searches())
 
 
 # ----------------------------------------------------------------------
@@ -1674,10 +1695,10 @@ MAKERS = {
     "p": replay_vectors,
     "v": search_vectors,
     "q": call_vectors,
+    "l": layout_vectors,
+    "e": evidence_vectors,
     "c": closed_vectors,
     "f": file_vectors,
-    "o": copy_vectors,
-    "e": evidence_vectors,
     "u": service_vectors,
     "z": totals_vectors,
 }

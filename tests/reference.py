@@ -1,6 +1,7 @@
 """An independent implementation of the verdict engine's paper (document 01), in plain Python, and of
-four changes of document 02: its closed lists (§1), its policy 4, least slack first (§3), its order of
-jobs that are equal otherwise, by age (§4), and its totals of where the core time went (§5).
+five changes of document 02: its closed lists (§1), its policy 4, least slack first (§3), its order of
+jobs that are equal otherwise, by age (§4), its totals of where the core time went (§5), and its columns
+of the work space (§6).
 
 It is written from the papers alone and shares nothing with the library: it is slow, direct, and
 meant to be read beside them. Each function's docstring names the section that it follows.
@@ -426,12 +427,13 @@ def service_call(sheet: bytes, masks: bytes, space: bytes) -> tuple[int, bytes]:
 # ----------------------------------------------------------------------
 # The search
 
-SLOT = 24  # bytes of a slot
+SLOT = 21  # bytes of a slot: those of its state, 4 of its parent, 1 of its mask
 MOST_SLOTS = 1_000_000
 
 
 def slots(work_length: int) -> int:
-    """Section "The search": K = work length divided by 24, rounded down, at most 1,000,000."""
+    """Document 02, §6: K is the length divided by 21, rounded down, same cap; section "The search": at
+    most 1,000,000."""
     return min(work_length // SLOT, MOST_SLOTS)
 
 
@@ -550,20 +552,86 @@ def verdict_number(found: Verdict) -> int:
     return kind * 2**48 + found.L * 2**24 + found.N
 
 
+# ----------------------------------------------------------------------
+# The work space
+
+STATE = 2 * TASKS  # bytes of a state
+
+
 def state_bytes(state: State) -> bytes:
     """Section "The search": the 16 state bytes of a slot: c, p of task 1, then task 2 and so on."""
     return bytes(x for pair in zip(state.c, state.p) for x in pair)
 
 
-# ----------------------------------------------------------------------
-# Files of states
-
-STATE = 2 * TASKS  # bytes of a state
-
-
 def state_of(piece: bytes) -> State:
     """Section "The search": the state of 16 bytes."""
     return State(tuple(piece[::2]), tuple(piece[1::2]))
+
+
+class Slot(NamedTuple):
+    """Section "The search": a state, the parent slot, and the mask."""
+
+    state: State
+    parent: int
+    mask: int
+
+
+def columns(work: bytes) -> tuple[bytes, bytes, bytes, bytes]:
+    """Document 02, §6: K states of 16 bytes, then K parents of 4, then K masks; and the bytes after the
+    third column."""
+    K = slots(len(work))
+    parents, masks, end = STATE * K, STATE * K + 4 * K, SLOT * K
+    return work[:parents], work[parents:masks], work[masks:end], work[end:]
+
+
+def write_slots(work: bytes, written: list[Slot]) -> bytes:
+    """Section "The search", document 02, §6: a work space with its first slots written, each part at the
+    front of its column, the parent low byte first. Work bytes that stay are those of unwritten slots in
+    each column and those after the third. The work space handed in is not changed: what it becomes is
+    returned."""
+    assert len(written) <= slots(len(work))
+    states, parents, masks, after = columns(work)
+    fronts = (
+        b"".join(state_bytes(slot.state) for slot in written),
+        b"".join(slot.parent.to_bytes(4, "little") for slot in written),
+        bytes(slot.mask for slot in written),
+    )
+    return b"".join(front + column[len(front) :] for front, column in zip(fronts, (states, parents, masks))) + after
+
+
+def read_slots(work: bytes, count: int) -> list[Slot]:
+    """Section "The search", document 02, §6: the first slots of a work space."""
+    states, parents, masks, _ = columns(work)
+    return [
+        Slot(
+            state_of(states[STATE * i : STATE * i + STATE]),
+            int.from_bytes(parents[4 * i : 4 * i + 4], "little"),
+            masks[i],
+        )
+        for i in range(count)
+    ]
+
+
+def leading(table: Table, written: list[Slot], state: State) -> list[tuple[int, int]]:
+    """Section "The search": the parents, with a mask each, that a next slot with this state may have:
+    earlier slots whose tick under the mask gives it."""
+    return [
+        (parent, mask)
+        for parent, slot in enumerate(written)
+        for mask, missed, after in successors(table, slot.state)
+        if not missed and after == state
+    ]
+
+
+def keeps_rule(table: Table, written: list[Slot]) -> bool:
+    """Section "The search": slot 0 is the start state, parent 0, mask 0; any other slot's parent is an
+    earlier slot whose tick under the mask gives its state. No two are the same."""
+    ruled = all(slot[1:] in leading(table, written[:i], slot.state) for i, slot in enumerate(written) if i)
+    return written[0] == (START, 0, 0) and ruled and len({slot.state for slot in written}) == len(written)
+
+
+# ----------------------------------------------------------------------
+# Files of states
 
 
 def file_states(file: bytes) -> list[State]:
@@ -602,30 +670,6 @@ def closed_number(sheet: bytes, file: bytes) -> int:
         return refused.number
 
 
-def copy_states(work: bytes, count: int, output: bytes) -> tuple[int, bytes]:
-    """The states of the first slots of a work space, copied out in their order: the file at the
-    front of the output, its length is returned, later bytes stay. Refusal 9: there are fewer slots.
-    14: the file would be empty. 12: the output is shorter than the file. The output handed in is
-    not changed: what it becomes is returned."""
-    if count > slots(len(work)):
-        raise Refused(9)
-    if count == 0:
-        raise Refused(14)
-    file = b"".join(work[SLOT * i : SLOT * i + STATE] for i in range(count))
-    if len(output) < len(file):
-        raise Refused(12)
-    return len(file), file + output[len(file) :]
-
-
-def copied_number(work: bytes, count: int, output: bytes) -> int:
-    """The call for C: kind x 2^48 + N, with kind 1 done, where N bytes are written, and kind 0
-    refused, where N is the refusal."""
-    try:
-        return 2**48 + copy_states(work, count, output)[0]
-    except Refused as refused:
-        return refused.number
-
-
 # ----------------------------------------------------------------------
 # What is known without the library
 
@@ -657,10 +701,31 @@ def check_files() -> None:
     assert refusal(closed, two, b"") == 14 and refusal(closed, two, file_of(own)[:-1]) == 14
     assert refusal(closed, two._replace(m=0), b"") == 5 and closed_number(b"\x04", b"") == 3
     assert closed_number(sheet_bytes(two), bytes(16)) == 2 * 2**48
-    work = bytes(range(48)) + bytes(10)
-    assert copy_states(work, 2, b"\xff" * 33) == (32, work[:16] + work[24:40] + b"\xff")
-    refused = [copied_number(work, *rest) for rest in ((3, b""), (0, b""), (2, bytes(31)))]
-    assert refused == [9, 14, 12]
+
+
+def check_columns() -> None:
+    """Document 02, §6: where each part stands, byte by byte, in spaces of 21 K to 21 K + 20 bytes that held
+    others before; which bytes stay; and that any slots that are written are read back. Then the columns at
+    the cap, a table of the benchmark, whose first 16 N bytes are accepted, and slots that break the rule."""
+    assert [slots(length) for length in (0, 20, 21, 41, 42, 65_520)] == [0, 0, 1, 1, 2, 3_120]
+    assert [slots(SLOT * MOST_SLOTS + x) for x in (-1, 0, SLOT)] == [MOST_SLOTS - 1, MOST_SLOTS, MOST_SLOTS]
+    any_slots = [Slot(State((9 + i,) * TASKS, (i,) * TASKS), 0x04030201 + i, 250 - i) for i in range(3)]
+    for K, N, rest in product((3, 4, 7), range(4), range(SLOT)):
+        before = bytes((100 + 7 * i + rest) % 256 for i in range(SLOT * K + rest))
+        after, expected = write_slots(before, any_slots[:N]), bytearray(before)
+        for i in range(N):
+            expected[16 * i : 16 * i + 16] = bytes([9 + i, i]) * 8
+            expected[16 * K + 4 * i : 16 * K + 4 * i + 4] = bytes([1 + i, 2, 3, 4])
+            expected[20 * K + i] = 250 - i
+        assert after == expected and read_slots(after, N) == any_slots[:N]
+    past = bytes(SLOT * MOST_SLOTS + 50)
+    assert list(map(len, columns(past))) == [16 * MOST_SLOTS, 4 * MOST_SLOTS, MOST_SLOTS, 50]
+    two = table_of(P_GFP, 1, [(1, 2, 2), (1, 2, 2)])
+    states = START, with_jobs((0, 1)), with_jobs((0, 0), (0, 1)), with_jobs((0, 1), (1, 1))
+    own = [Slot(state, 0, mask) for mask, state in enumerate(states)]
+    assert keeps_rule(two, own) and closed(two, write_slots(bytes(200), own)[: STATE * len(own)])
+    wrong = [[*own[:3], own[3]._replace(mask=1)], [*own[:3], own[3]._replace(parent=3)], [*own, own[1]], own[1:]]
+    assert not any(keeps_rule(two, slots) for slots in wrong)
 
 
 def chosen(table: Table, masks: bytes) -> list[list[int]]:
@@ -759,7 +824,7 @@ def check_beside_deadlines() -> None:
 
 def self_check() -> None:
     """Section "Benchmark tables": every entry, starred or not. Then demand 3: the levels are those
-    that replaying every list gives. Then files of states, policy 4, the age, and the totals."""
+    that replaying every list gives. Then files of states, policy 4, the age, the totals, and the columns."""
     big = MOST_SLOTS
     two = table_of(P_GFP, 1, [(1, 2, 2), (1, 2, 2)])
     assert verdict(two, big) == ("safe", 0, 4) and verdict(two, 3) == ("room", 0, 3)
@@ -794,6 +859,7 @@ def self_check() -> None:
     check_beside_deadlines()
     check_age()
     check_service()
+    check_columns()
 
 
 if __name__ == "__main__":

@@ -1,4 +1,5 @@
-/* judge SHEET: the table of the sheet in a file, the verdict on it, and the replay of the list that misses.
+/* judge SHEET: the table of the sheet in a file, the verdict on it, and the check of what the verdict rests on: under Safe of the
+ * states that were found, under Unsafe of the list that misses.
  *
  * Build:  gcc -O2 -Iinclude examples/c/judge.c target/staticlib/libronchhek.a -o judge
  *
@@ -8,7 +9,7 @@
 
 #include "ronchhek.h"
 
-enum { SLOTS = 2730 };
+enum { SLOTS = 3120 };
 
 int main(int argc, char **argv)
 {
@@ -33,6 +34,8 @@ int main(int argc, char **argv)
     switch (RONCHHEK_KIND(answer)) {
     case RONCHHEK_SAFE:
         printf("safe: no release list misses, %u states\n", count);
+        answer = ronchhek_closed(sheet, len, work, (size_t)count * RONCHHEK_STATE_BYTES); /* the states stand at the front */
+        puts(RONCHHEK_KIND(answer) == RONCHHEK_ACCEPTED ? "checked: the states are evidence" : "checked: the states are no evidence");
         break;
     case RONCHHEK_NO_ROOM:
         printf("no room: more than %u states\n", count);

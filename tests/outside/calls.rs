@@ -30,7 +30,6 @@ extern "C" {
     fn ronchhek_read(sheet: *const u8, sheet_len: usize, table: *mut u8, table_len: usize) -> u64;
     fn ronchhek_write(table: *const u8, table_len: usize, out: *mut u8, out_len: usize) -> u64;
     fn ronchhek_closed(sheet: *const u8, sheet_len: usize, states: *const u8, states_len: usize) -> u64;
-    fn ronchhek_states(work: *const u8, work_len: usize, count: usize, out: *mut u8, out_len: usize) -> u64;
 }
 
 /// The call takes any bytes and any lengths, so there is nothing to test before it.
@@ -61,11 +60,6 @@ pub fn write(table: &[u8], out: &mut [u8]) -> u64 {
 
 pub fn closed(sheet: &[u8], file: &[u8]) -> u64 {
     unsafe { ronchhek_closed(sheet.as_ptr(), sheet.len(), file.as_ptr(), file.len()) }
-}
-
-pub fn states(work: &[u8], count: usize, out: &mut [u8]) -> u64 {
-    let n = out.len();
-    unsafe { ronchhek_states(work.as_ptr(), work.len(), count, out.as_mut_ptr(), n) }
 }
 
 /// kind * 2^48 + N, where N bytes are written.

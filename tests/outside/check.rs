@@ -1,15 +1,9 @@
 //! What a call may leave behind: its answer and every byte that it was lent, by document 01's rules.
 
 use crate::calls::{packed_bytes, packed_closed, packed_replay, packed_verdict};
+use crate::layout::Columns;
 use crate::model::{Levels, Model, Replay, State, Table, Tick, Totals, Verdict, STATE, TASKS, TOTALS};
 use std::collections::HashSet;
-
-pub const SLOT: usize = 24;
-
-/// K of a work space.
-pub fn slots_of(work_len: usize) -> usize {
-    (work_len / SLOT).min(1_000_000)
-}
 
 /// The spaces of one call of ronchhek_verdict, before and after it, and its answer.
 pub struct Searched<'a> {
@@ -20,7 +14,7 @@ pub struct Searched<'a> {
     pub answer: u64,
 }
 
-/// The one space of a call of ronchhek_replay, ronchhek_service, ronchhek_read, ronchhek_write or ronchhek_states.
+/// The one space of a call of ronchhek_replay, ronchhek_service, ronchhek_read or ronchhek_write.
 pub struct Called<'a> {
     pub before: &'a [u8],
     pub after: &'a [u8],
@@ -36,8 +30,8 @@ fn same(what: &str, before: &[u8], after: &[u8]) -> Result<(), String> {
 }
 
 /// The refusal of a search of this sheet with these spaces, if there is one.
-pub fn search_refusal(reading: &Result<Table, u8>, work_len: usize, trace_len: usize) -> Option<u8> {
-    let k = slots_of(work_len);
+pub fn search_refusal(m: &Model, reading: &Result<Table, u8>, work_len: usize, trace_len: usize) -> Option<u8> {
+    let k = m.slots(work_len);
     match reading {
         Err(r) => Some(*r),
         Ok(_) if k == 0 => Some(9),
@@ -68,11 +62,14 @@ pub fn answered(m: &Model, t: &Table, v: Verdict, levels: Option<&Levels>, c: &S
         Verdict::Unsafe(l, n) => (n, l),
         Verdict::NoRoom(k) => (k, 0),
     };
-    if count * SLOT > c.work_after.len() || masks > c.trace_after.len() {
+    let columns = Columns { k: m.slots(c.work_after.len()) };
+    if count > columns.k || masks > c.trace_after.len() {
         return Err(format!("{v:?} is more than the spaces hold"));
     }
-    let states = written_slots(m, t, &c.work_after[..count * SLOT])?;
-    same("work after the slots", &c.work_before[count * SLOT..], &c.work_after[count * SLOT..])?;
+    let states = written_slots(m, t, columns, c.work_after, count)?;
+    for (what, bytes) in columns.rest(count, c.work_after.len()) {
+        same(what, &c.work_before[bytes.clone()], &c.work_after[bytes])?;
+    }
     same("trace after the masks", &c.trace_before[masks..], &c.trace_after[masks..])?;
     if let Verdict::Unsafe(l, _) = v {
         let list = &c.trace_after[..l];
@@ -104,20 +101,16 @@ pub fn answered(m: &Model, t: &Table, v: Verdict, levels: Option<&Levels>, c: &S
 }
 
 /// The slot rule: slot 0 is the start state with parent 0 and mask 0, any other slot's parent is an earlier slot
-/// whose tick under the mask gives its state; three zero bytes; no state twice.
-fn written_slots(m: &Model, t: &Table, work: &[u8]) -> Result<Vec<State>, String> {
-    let mut states: Vec<State> = Vec::with_capacity(work.len() / SLOT);
-    let mut seen = HashSet::with_capacity(work.len() / SLOT);
-    for (i, slot) in work.chunks(SLOT).enumerate() {
-        let s = State::from_bytes(&slot[..16]);
-        let parent = u32::from_le_bytes(slot[16..20].try_into().unwrap()) as usize;
-        let mask = slot[20];
-        if slot[21..] != [0, 0, 0] {
-            return Err(format!("slot {i} ends with {:?}", &slot[21..]));
-        }
+/// whose tick under the mask gives its state; no state twice.
+fn written_slots(m: &Model, t: &Table, columns: Columns, work: &[u8], count: usize) -> Result<Vec<State>, String> {
+    let mut states: Vec<State> = Vec::with_capacity(count);
+    let mut seen = HashSet::with_capacity(count);
+    for i in 0..count {
+        let slot = columns.slot(work, i);
+        let (s, parent, mask) = (slot.state, slot.parent as usize, slot.mask);
         if i == 0 {
             if s != State::default() || parent != 0 || mask != 0 {
-                return Err(format!("slot 0 is {slot:?}"));
+                return Err(format!("slot 0 holds {s:?} with parent {parent} and mask {mask}"));
             }
         } else if parent >= i {
             return Err(format!("slot {i} has parent {parent}"));
@@ -236,7 +229,7 @@ pub fn fitted(bytes: Result<Vec<u8>, u8>, space: usize) -> Result<Vec<u8>, u8> {
     bytes.and_then(|b| if space < b.len() { Err(12) } else { Ok(b) })
 }
 
-/// A call of ronchhek_read, ronchhek_write or ronchhek_states: the bytes at the front of the space, or the refusal.
+/// A call of ronchhek_read or ronchhek_write: the bytes at the front of the space, or the refusal.
 pub fn written(outcome: &Result<Vec<u8>, u8>, c: &Called) -> Result<(), String> {
     let expected = packed_bytes(outcome);
     if c.answer != expected {
@@ -264,19 +257,4 @@ pub fn judged(outcome: Result<bool, u8>, answer: u64) -> Result<(), String> {
         return Err(format!("the file is answered {answer:#x}, expected {expected:#x} ({outcome:?})"));
     }
     Ok(())
-}
-
-/// The states of the first `count` slots of a work space, or the refusal: 9, 14, then 12 by the space for them.
-pub fn copied(m: &Model, work: &[u8], count: usize, space: usize) -> Result<Vec<u8>, u8> {
-    if space < count.saturating_mul(STATE) && m.fault == 15 {
-        return Err(12);
-    }
-    if count > slots_of(work.len()) {
-        return Err(9);
-    }
-    if count == 0 {
-        return Err(14);
-    }
-    let slots = work.chunks_exact(SLOT).take(count);
-    fitted(Ok(slots.flat_map(|slot| slot[..STATE].to_vec()).collect()), space)
 }

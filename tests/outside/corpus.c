@@ -1,7 +1,8 @@
 /* corpus FOLDER: every line of FOLDER/cases.txt in one process, for valgrind: each space is a heap block of the exact size that
  * nothing wrote to before. The first line of a verdict must be the one expected, the list of an unsafe one must miss at its last
- * tick, the states of a search must be accepted as a file exactly when it is safe, the totals of every list must balance, and the
- * table of an accepted sheet must give the same sheet again. Ends with status 1 at the first difference. */
+ * tick, the parents and masks of the slots must lead to their states, the states of a search must be accepted as a file exactly when
+ * it is safe, the totals of every list must balance, and the table of an accepted sheet must give the same sheet again. Ends with
+ * status 1 at the first difference. */
 #include <stdio.h>
 #include <stdlib.h>
 #include <string.h>
@@ -37,20 +38,47 @@ static uint8_t *load(const char *folder, const char *name, size_t *len)
     return sheet;
 }
 
-/* The states of a search as a file: accepted under safe, and no without the last of them or under another verdict. */
-static void evidence(const char *name, const uint8_t *sheet, size_t len, const uint8_t *work, size_t work_len, uint64_t verdict)
+/* The masks from slot i back to slot 0, each parent an earlier slot, as a list that ends with this byte: its length. */
+static size_t list_to(const char *name, const uint8_t *work, size_t k, size_t i, uint8_t *last)
 {
-    size_t count = RONCHHEK_COUNT(verdict), bytes = count * RONCHHEK_STATE_BYTES, less = bytes - RONCHHEK_STATE_BYTES;
-    int safe = RONCHHEK_KIND(verdict) == RONCHHEK_SAFE;
+    size_t ticks = 0;
+    while (i > 0) {
+        const uint8_t *at = work + RONCHHEK_PARENT_AT(k, i);
+        size_t parent = at[0] | (size_t)at[1] << 8 | (size_t)at[2] << 16 | (size_t)at[3] << 24;
+        if (parent >= i)
+            fail(name, "a slot's parent is not an earlier one");
+        *(last - ticks++) = work[RONCHHEK_MASK_AT(k, i)];
+        i = parent;
+    }
+    return ticks;
+}
+
+/* Some of the slots that were written: the list to each reaches its state. */
+static void slots(const char *name, const uint8_t *sheet, size_t len, const uint8_t *work, size_t work_len, size_t count)
+{
+    uint8_t *list = space(count), *state = space(RONCHHEK_STATE_BYTES), *end = list + count;
+    for (size_t i = 0; i < count; i += 1 + count / 50) {
+        size_t ticks = list_to(name, work, RONCHHEK_SLOTS(work_len), i, end - 1);
+        uint64_t played = ronchhek_replay(sheet, len, end - ticks, ticks, state, RONCHHEK_STATE_BYTES);
+        if (RONCHHEK_REPLAY_KIND(played) != RONCHHEK_REPLAY_KEPT || memcmp(state, work + RONCHHEK_STATE_AT(i), RONCHHEK_STATE_BYTES) != 0)
+            fail(name, "the parents and masks from a slot on do not lead to its state");
+    }
+    free(list);
+    free(state);
+}
+
+/* The states of a search as a file, at the front of its work space and by themselves: accepted under safe, and no without the last of
+ * them or under another verdict. */
+static void evidence(const char *name, const uint8_t *sheet, size_t len, const uint8_t *work, uint64_t verdict)
+{
+    size_t bytes = RONCHHEK_STATE_AT(RONCHHEK_COUNT(verdict)), less = bytes - RONCHHEK_STATE_BYTES;
+    unsigned expected = RONCHHEK_KIND(verdict) == RONCHHEK_SAFE ? RONCHHEK_ACCEPTED : RONCHHEK_NO;
     uint8_t *file = space(bytes), *shorter = space(less);
-    uint64_t copied = ronchhek_states(work, work_len, count, file, bytes);
-    if (RONCHHEK_KIND(copied) != RONCHHEK_DONE || RONCHHEK_COUNT(copied) != bytes)
-        fail(name, "the states are not copied");
-    uint64_t answer = ronchhek_closed(sheet, len, file, bytes);
-    if (RONCHHEK_KIND(answer) != (safe ? RONCHHEK_ACCEPTED : RONCHHEK_NO))
+    memcpy(file, work, bytes);
+    memcpy(shorter, work, less);
+    if (RONCHHEK_KIND(ronchhek_closed(sheet, len, work, bytes)) != expected || RONCHHEK_KIND(ronchhek_closed(sheet, len, file, bytes)) != expected)
         fail(name, "the file of the states is judged otherwise than the search");
-    memcpy(shorter, file, less);
-    answer = ronchhek_closed(sheet, len, shorter, less);
+    uint64_t answer = ronchhek_closed(sheet, len, shorter, less);
     if (less ? RONCHHEK_KIND(answer) != RONCHHEK_NO : answer != 14)
         fail(name, "a file that lacks a state is not answered no");
     free(file);
@@ -110,7 +138,7 @@ static void services(const char *name, const uint8_t *sheet, size_t len)
     free(list);
 }
 
-/* The verdict's first line, a replay of its list, and its states as a file. */
+/* The verdict's first line, a replay of its list, its slots, and its states as a file. */
 static void judge(const char *name, const uint8_t *sheet, size_t len, size_t work_len, size_t trace_len, const char *expected)
 {
     uint8_t *work = space(work_len), *trace = space(trace_len), *state = space(RONCHHEK_STATE_BYTES);
@@ -130,8 +158,10 @@ static void judge(const char *name, const uint8_t *sheet, size_t len, size_t wor
             fail(name, "the list does not miss at its last tick");
         service(name, sheet, len, trace, ticks);
     }
-    if (kind != RONCHHEK_REFUSED)
-        evidence(name, sheet, len, work, work_len, answer);
+    if (kind != RONCHHEK_REFUSED) {
+        slots(name, sheet, len, work, work_len, count);
+        evidence(name, sheet, len, work, answer);
+    }
     free(work);
     free(trace);
     free(state);

@@ -1,9 +1,10 @@
 //! Differential test: the library's calls against the independent implementation of model.rs.
 //!
-//!     differ [--seed S] [--sheets N] [--case I] [--fault 1..34] [--corpus DIR]
+//!     differ [--seed S] [--sheets N] [--case I] [--fault 1..44] [--corpus DIR]
 //!
 //! Prints its seed, and at the end what was met. Ends with status 1 at the first difference.
-//! `--case I` runs that sheet of the seed alone. `--fault` seeds a mistake in the independent side.
+//! `--case I` runs that sheet of the seed alone. `--fault` seeds a mistake: in the independent side, or, of the layout, in the work
+//! spaces that the library left.
 //! `--corpus` also takes the sheets of a folder, and compares the lines of its cases.txt.
 
 mod ages;
@@ -12,12 +13,14 @@ mod check;
 mod evidence;
 mod files;
 mod gen;
+mod layout;
 mod model;
 mod rng;
 mod service;
 
-use check::{Called, Searched, SLOT};
-use model::{End, Levels, Model, Replay, Table, Verdict, BY_NUMBER, POLICIES, TABLE};
+use check::{Called, Searched};
+use layout::{Columns, Left, SLOT};
+use model::{End, Levels, Model, Replay, Table, Verdict, BY_NUMBER, POLICIES, STATE, TABLE};
 use rng::Rng;
 use std::collections::{BTreeMap, HashSet};
 
@@ -32,6 +35,9 @@ const PUBLISHED: [(u8, [Verdict; POLICIES as usize]); 2] = {
         (6, [Safe(435_379), Unsafe(14, 397_270), Safe(435_106), Safe(427_413), Safe(406_235)]),
     ]
 };
+
+/// The kinds of a search's answer.
+const KINDS: [&str; 4] = ["refused", "Safe", "Unsafe", "No room"];
 
 /// What a run met, by name.
 #[derive(Default)]
@@ -110,6 +116,8 @@ impl Lent {
 
 struct Run {
     m: Model,
+    /// Seeded in the work spaces that the library left.
+    mistake: Option<fn(&Left) -> Vec<u8>>,
     met: Met,
 }
 
@@ -132,12 +140,23 @@ impl Subject {
 
 /// What a judged search left.
 struct Found {
-    kind: u64,
+    answer: u64,
     /// The masks of Unsafe.
     masks: Vec<u8>,
     work: Vec<u8>,
     /// The slots that are written.
     count: usize,
+}
+
+impl Found {
+    fn kind(&self) -> u64 {
+        self.answer >> 48
+    }
+
+    /// The states, which stand at the front of the work space.
+    fn file(&self) -> &[u8] {
+        &self.work[..self.count * STATE]
+    }
 }
 
 impl Run {
@@ -149,11 +168,11 @@ impl Run {
 
     fn judge(&self, s: &Subject, c: &Searched) -> Result<(), String> {
         let (w, t) = (c.work_before.len(), c.trace_before.len());
-        if let Some(number) = check::search_refusal(&s.reading, w, t) {
+        if let Some(number) = check::search_refusal(&self.m, &s.reading, w, t) {
             return check::refused(number, c);
         }
         let levels = s.levels.as_ref().unwrap();
-        let v = levels.verdict(check::slots_of(w)).ok_or("a K that the levels do not decide")?;
+        let v = levels.verdict(self.m.slots(w)).ok_or("a K that the levels do not decide")?;
         check::answered(&self.m, s.reading.as_ref().unwrap(), v, Some(levels), c)
     }
 
@@ -169,6 +188,13 @@ impl Run {
         }
         work.around_stays().map_err(told)?;
         trace.around_stays().map_err(told)?;
+        let masks = if answer >> 48 == 2 { (answer >> 24 & 0xFF_FFFF) as usize } else { 0 };
+        let count = if answer >> 48 == 0 { 0 } else { (answer & 0xFF_FFFF) as usize };
+        let columns = Columns { k: self.m.slots(work_len) };
+        if let Some(mistake) = self.mistake.filter(|_| count > 0) {
+            let left = mistake(&Left::new(columns, work.was(), work.is(), count));
+            work.space().copy_from_slice(&left);
+        }
         let call = |work: &Lent, trace: &Lent, answer: u64, run: &Run| {
             run.judge(
                 s,
@@ -185,24 +211,19 @@ impl Run {
         self.met.add("calls of the search");
         self.met.add(&match answer >> 48 {
             0 => format!("search refused {:2}", answer & 0xFF_FFFF),
-            1 => s.under("Safe"),
-            2 => s.under("Unsafe"),
-            _ => s.under("No room"),
+            kind => s.under(KINDS[kind as usize]),
         });
-        let masks = if answer >> 48 == 2 { (answer >> 24 & 0xFF_FFFF) as usize } else { 0 };
         self.met.greatest("is the greatest L", masks);
-        let count = if answer >> 48 == 0 { 0 } else { (answer & 0xFF_FFFF) as usize };
         self.met.greatest("is the greatest count", count);
-        let found = Found { kind: answer >> 48, masks: trace.is()[..masks].to_vec(), work: work.is().to_vec(), count };
+        let found = Found { answer, masks: trace.is()[..masks].to_vec(), work: work.is().to_vec(), count };
         if r.one_in(30) {
-            // A state byte, a spare byte, a byte that stays, or the answer.
-            let slots = count * SLOT;
+            // A byte of a state, the highest of a parent, one that stays, or the answer.
             let mut changed = answer;
             match r.below(3) {
                 0 if work_len > 0 => {
                     let mut at = r.below(work_len);
-                    if at < slots && (16..21).contains(&(at % SLOT)) {
-                        at -= 5; // parent and mask are free: take a state byte
+                    if columns.is_free(at, count) {
+                        at = r.below(count * STATE);
                     }
                     work.space()[at] ^= 1 << r.below(8);
                 }
@@ -461,6 +482,10 @@ impl Run {
         sizes.retain(|&k| k <= LIMIT + 50 && levels.verdict(k).is_some());
         sizes.sort();
         sizes.dedup();
+        if r.one_in(8) {
+            let k = r.pick(&sizes);
+            self.every_rest(r, &s, k)?;
+        }
         let mut traces = Vec::new();
         for k in sizes {
             for trace in [k.wrapping_sub(1), k, k + 1, k + r.below(30)] {
@@ -475,6 +500,31 @@ impl Run {
             }
         }
         self.replays(r, &s, &traces)
+    }
+
+    /// K slots with every number of bytes that make no slot: the same answer and count.
+    fn every_rest(&mut self, r: &mut Rng, s: &Subject, k: usize) -> Result<(), String> {
+        let answer = self.search(r, s, k * SLOT, k)?.answer;
+        for rest in 1..SLOT {
+            let other = self.search(r, s, k * SLOT + rest, k)?.answer;
+            if other != answer {
+                return Err(format!("{k} slots: answer {answer:#x}, and {other:#x} with {rest} bytes more"));
+            }
+        }
+        self.met.add(&format!("{} with every rest", KINDS[(answer >> 48) as usize]));
+        Ok(())
+    }
+
+    /// Work spaces round the millionth slot and beyond it, with a trace byte for each of a million slots, and one fewer.
+    fn most_slots(&mut self, r: &mut Rng) -> Result<(), String> {
+        let s = self.subject(model::write_sheet(&table(1, 1, &[(1, 2, 2), (1, 2, 2)])), 10);
+        for work in
+            [999_999 * SLOT, 1_000_000 * SLOT - 1, 1_000_000 * SLOT, 1_000_000 * SLOT + 1, 1_000_001 * SLOT, 24_000_000]
+        {
+            self.search(r, &s, work, 1_000_000)?;
+            self.search(r, &s, work, 999_999)?;
+        }
+        Ok(())
     }
 
     /// A table with thousands of states, and spaces large enough for it.
@@ -652,9 +702,9 @@ impl Run {
                 Err(_) => (65_520, 8_192),
             };
             let s = self.subject(read(&format!("{name}.sheet"))?, 10_000);
-            let found = match (check::search_refusal(&s.reading, work, trace), &s.levels) {
+            let found = match (check::search_refusal(&self.m, &s.reading, work, trace), &s.levels) {
                 (Some(number), _) => format!("refused {number}"),
-                (None, Some(levels)) => match levels.verdict(check::slots_of(work)) {
+                (None, Some(levels)) => match levels.verdict(self.m.slots(work)) {
                     Some(Verdict::Safe(n)) => format!("safe {n}"),
                     Some(Verdict::Unsafe(l, n)) => format!("unsafe {l} {n}"),
                     Some(Verdict::NoRoom(k)) => format!("room {k}"),
@@ -704,6 +754,7 @@ fn whole_run(run: &mut Run, seed: u64, sheets: u64) -> Result<(), String> {
         let sets = if sheets >= 20_000 { &PUBLISHED[..] } else { &PUBLISHED[..1] };
         run.published_sets(&mut r, sets).map_err(|e| format!("document 000: {e}"))?;
         run.every_table(&mut r).map_err(|e| format!("every table: {e}"))?;
+        run.most_slots(&mut r).map_err(|e| format!("most slots: {e}"))?;
         run.sizes_of_files(&mut r).map_err(|e| format!("sizes of files: {e}"))?;
         run.all_at_once(&mut r).map_err(|e| format!("all tasks at once: {e}"))?;
         run.improper_files(&mut r).map_err(|e| format!("improper files: {e}"))?;
@@ -761,7 +812,6 @@ fn complete(met: &Met) -> Result<(), String> {
     all.extend([1, 2, 3, 4, 5, 6, 7, 8, 12].map(|n| format!("read refused {n:2}")));
     all.extend([1, 4, 5, 6, 7, 8, 12].map(|n| format!("write refused {n:2}")));
     all.extend([1, 2, 3, 4, 5, 6, 7, 8, 14].map(|n| format!("closed refused {n:2}")));
-    all.extend([9, 12, 14].map(|n| format!("states refused {n:2}")));
     all.extend(files::MUST.map(|(name, outcome)| format!("file {name}: {outcome}")));
     let answers = ["Safe", "Unsafe", "No room", "replay Kept", "replay Missed", "file accepted", "file no"];
     for p in 0..POLICIES {
@@ -772,7 +822,8 @@ fn complete(met: &Met) -> Result<(), String> {
     all.extend(["other states", "another end"].map(|what| format!("sheets of policy 4 with {what} under policy 3")));
     all.extend((2..POLICIES).map(|p| format!("sheets of policy {p} with other states by number alone")));
     all.push("sheets of policy 3 with another end by number alone".into());
-    all.extend(["read done", "write done", "states done"].map(String::from));
+    all.extend(["read done", "write done"].map(String::from));
+    all.extend(KINDS.map(|kind| format!("{kind} with every rest")));
     match all.iter().find(|what| met.of(what) < 20) {
         Some(what) => Err(format!("met fewer than 20 times: {what}")),
         None => Ok(()),
@@ -793,16 +844,17 @@ fn main() {
             "--seed" => seed = value,
             "--sheets" => sheets = value,
             "--case" => case = Some(value),
-            "--fault" if (1..=model::FAULTS.len() as u64).contains(&value) => fault = value as u8,
+            "--fault" if (1..=faults().count() as u64).contains(&value) => fault = value as u8,
             _ => usage(),
         }
     }
     println!("differ: seed {seed}, {sheets} sheets");
     if fault > 0 {
-        println!("seeded fault {fault}: {}", model::FAULTS[fault as usize - 1]);
+        println!("seeded fault {fault}: {}", faults().nth(fault as usize - 1).unwrap());
     }
     let start = std::time::Instant::now();
-    let mut run = Run { m: Model { fault }, met: Met::default() };
+    let mistake = layout::MISTAKES.get((fault as usize).wrapping_sub(model::FAULTS.len() + 1)).map(|mistake| mistake.1);
+    let mut run = Run { m: Model { fault }, mistake, met: Met::default() };
     let mut outcome = match case {
         Some(i) => one_sheet(&mut run, seed, i),
         None => whole_run(&mut run, seed, sheets),
@@ -825,7 +877,12 @@ fn main() {
     }
 }
 
+/// What is seeded, by number from 1: first in the independent side, then in the layout.
+fn faults() -> impl Iterator<Item = &'static str> {
+    model::FAULTS.into_iter().chain(layout::MISTAKES.into_iter().map(|(name, _)| name))
+}
+
 fn usage() -> ! {
-    eprintln!("usage: differ [--seed S] [--sheets N] [--case I] [--fault 1..34] [--corpus DIR]");
+    eprintln!("usage: differ [--seed S] [--sheets N] [--case I] [--fault 1..44] [--corpus DIR]");
     std::process::exit(2);
 }

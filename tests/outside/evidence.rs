@@ -1,7 +1,8 @@
-//! The differential test of evidence: the states of a search copied out, and files of states judged as closed lists.
+//! The differential test of evidence: the states at the front of a search's work space, and files of states, judged as closed lists.
 
-use crate::check::{self, SLOT};
+use crate::check;
 use crate::files::{self, Fault, File};
+use crate::layout::SLOT;
 use crate::model::{self, Levels, State, Verdict, POLICIES, STATE};
 use crate::rng::Rng;
 use crate::{calls, table, Found, Lent, Run, Subject, LIMIT};
@@ -40,41 +41,11 @@ impl Run {
         Ok(())
     }
 
-    /// The states of the first slots, into a space of that length.
-    fn copy(&mut self, r: &mut Rng, work: &[u8], count: usize, out_len: usize) -> Result<Vec<u8>, String> {
-        let told = |e: String| format!("{count} slots of a work space of {} bytes: {e}", work.len());
-        let (lent, mut out) = (Lent::holding(r, work), Lent::new(r, out_len));
-        let answer = calls::states(lent.is(), count, out.space());
-        lent.stays().map_err(told)?;
-        let copy = out.is().to_vec();
-        let outcome = check::copied(&self.m, work, count, out_len);
-        self.written(r, "states", out, answer, outcome).map_err(told)?;
-        Ok(copy)
-    }
-
-    /// Every edge of the number of slots, with spaces that are too short, just long enough and longer.
-    fn copies(&mut self, r: &mut Rng, found: &Found) -> Result<(), String> {
-        let slots = check::slots_of(found.work.len());
-        for count in [0, 1, found.count, slots, slots + 1, r.below(slots + 2)] {
-            let exact = count * STATE;
-            for len in [exact.saturating_sub(1), exact, exact + r.range(1, 40), r.below(exact + 1)] {
-                self.copy(r, &found.work, count, len)?;
-            }
-        }
-        // Also so many that 16 times as many bytes have no number in 64 bits.
-        let wraps = usize::MAX / STATE + 1;
-        for count in [1_000_001, 1 << 59, wraps, wraps + 1, wraps * (STATE - 1), usize::MAX] {
-            let len = r.pick(&[0, 15, 16, 100]);
-            self.copy(r, &found.work, count, len)?;
-        }
-        Ok(())
-    }
-
     /// The file of a judged search, and others made of it.
     fn files(&mut self, r: &mut Rng, s: &Subject, found: &Found) -> Result<(), String> {
         let t = s.reading.as_ref().unwrap();
-        let states = files::states_of(&self.copy(r, &found.work, found.count, found.count * STATE)?);
-        let mut made = match found.kind {
+        let states = files::states_of(found.file());
+        let mut made = match found.kind() {
             1 => files::of_safe(r, &self.m, t, &states),
             2 => files::of_unsafe(r, &self.m, t, &states),
             _ => vec![File::of("of a No room search", &states, Some(false))],
@@ -88,7 +59,7 @@ impl Run {
         self.closed(r, &other, &File::of("of another policy or number of cores", &states, None))
     }
 
-    /// Copies and files of one sheet: of a search with all the room that it needs, and of one with any.
+    /// Files of one sheet: of a search with all the room that it needs, and of one with any.
     pub fn evidence(&mut self, r: &mut Rng, s: &Subject) -> Result<(), String> {
         let Some(levels) = &s.levels else {
             // Whatever the file is, a sheet that is refused comes first.
@@ -100,7 +71,6 @@ impl Run {
             if levels.verdict(k).is_some() {
                 let rest = r.below(SLOT);
                 let found = self.search(r, s, k * SLOT + rest, k)?;
-                self.copies(r, &found)?;
                 self.files(r, s, &found)?;
             }
         }
@@ -109,9 +79,9 @@ impl Run {
 
     /// The file of a search of a large table: as it is, shuffled, and without one state.
     pub fn large_file(&mut self, r: &mut Rng, s: &Subject, found: &Found) -> Result<(), String> {
-        let states = files::states_of(&self.copy(r, &found.work, found.count, found.count * STATE)?);
-        let safe = Some(found.kind == 1);
-        let name = if found.kind == 1 { "of a large table" } else { "of a large table that is not safe" };
+        let states = files::states_of(found.file());
+        let safe = Some(found.kind() == 1);
+        let name = if found.kind() == 1 { "of a large table" } else { "of a large table that is not safe" };
         self.closed(r, s, &File::of(name, &states, safe))?;
         let mixed = files::shuffled(r, &states);
         self.closed(r, s, &File::of("of a large table, shuffled", &mixed, safe))?;
@@ -130,7 +100,7 @@ impl Run {
         if answer != calls::packed_verdict(Ok(Verdict::Safe(n))) {
             return Err(format!("{t:?}: answer {answer:#x}, expected {n} states"));
         }
-        let own = files::states_of(&self.copy(r, &work, n, n * STATE)?);
+        let own = files::states_of(&work[..n * STATE]);
         let mixed = files::shuffled(r, &own);
         self.closed(r, &s, &File::of("of a large table", &own, Some(true)))?;
         self.known(&s, "of a large table, shuffled", &mixed, true)?;
@@ -180,8 +150,7 @@ impl Run {
         Ok(())
     }
 
-    /// Files with as many states as the sizes at which the header's stack figures change, and others, of few that differ; and
-    /// work spaces round the millionth slot.
+    /// Files of some thousand states to a million and one, of few that differ.
     pub fn sizes_of_files(&mut self, r: &mut Rng) -> Result<(), String> {
         let t = table(1, 1, &[(1, 2, 2), (1, 2, 2)]);
         let s = self.subject(model::write_sheet(&t), 10);
@@ -197,13 +166,6 @@ impl Run {
             let ragged = files::ragged(r, &file.bytes);
             self.closed(r, &s, &file)?;
             self.closed(r, &s, &ragged)?;
-        }
-        let mut work = vec![0; 1_000_001 * SLOT];
-        r.fill(&mut work);
-        for (slots, count) in
-            [(999_999, 1_000_000), (1_000_000, 1_000_000), (1_000_001, 1_000_000), (1_000_001, 1_000_001)]
-        {
-            self.copy(r, &work[..slots * SLOT], count, count * STATE)?;
         }
         Ok(())
     }

@@ -13,10 +13,13 @@ mod files;
 #[allow(dead_code)]
 mod gen;
 #[allow(dead_code)]
+mod layout;
+#[allow(dead_code)]
 mod model;
 mod rng;
 
-use check::{Called, Searched, SLOT};
+use check::{Called, Searched};
+use layout::SLOT;
 use model::{Model, Table, Verdict, STATE, TABLE, TOTALS};
 use rng::Rng;
 use std::io::Write;
@@ -202,20 +205,6 @@ fn exchange(r: &mut Rng, m: &Model, spaces: &Spaces, sheet: &[u8], reading: &Res
         .map_err(|e| format!("table {table:?} written: {e}"))
 }
 
-/// States copied from the work space of a call, which stands in pages that fault on a write meanwhile.
-fn copies(r: &mut Rng, m: &Model, spaces: &Spaces, work: &Part, count: usize) -> Result<(), String> {
-    let slots = check::slots_of(work.len);
-    let any = r.below(slots + 2);
-    let count = r.pick(&[0, 1, count, count, slots, slots + 1, any, usize::MAX, usize::MAX / STATE + 1]);
-    let exact = if count <= slots + 1 { count * STATE } else { r.below(100) };
-    let len = r.pick(&[0, exact.saturating_sub(1), exact, exact, exact, exact + 1]);
-    spaces.work.access(READ);
-    let bytes = check::copied(m, spaces.work.bytes(work), count, len);
-    let outcome = written(r, &spaces.file, len, bytes, |space| calls::states(spaces.work.bytes(work), count, space));
-    spaces.work.access(READ_WRITE);
-    outcome.map_err(|e| format!("states of {count} slots of {}: {e}", work.len))
-}
-
 /// The file of a search, often damaged, or any bytes.
 fn damaged(r: &mut Rng, own: &[u8]) -> Vec<u8> {
     let mut file = own.to_vec();
@@ -236,17 +225,16 @@ fn damaged(r: &mut Rng, own: &[u8]) -> Vec<u8> {
     file
 }
 
-/// A file judged: by the model, or where it has more than a thousand states by the list of answers. Returns the answer's kind.
-fn judge(r: &mut Rng, m: &Model, spaces: &Spaces, sheet: &[u8], file: &[u8], safe: bool) -> Result<usize, String> {
-    let given = put(r, &spaces.file, file);
-    let answer = calls::closed(sheet, spaces.file.bytes(&given));
-    spaces.file.access(READ_WRITE);
+/// A file judged, which stands in pages that fault on a write: by what is known of it, by the model, or where it has more than a
+/// thousand states by the list of answers. Returns the answer's kind.
+fn judge(m: &Model, sheet: &[u8], file: &[u8], closed: Option<bool>) -> Result<usize, String> {
+    let answer = calls::closed(sheet, file);
     let reading = m.read_sheet(sheet);
     let many = reading.is_ok() && file.len() % STATE == 0 && file.len() > 1000 * STATE;
-    let outcome = match answer {
-        _ if safe => Ok(true),
-        0x1_0000_0000_0000 if many => Ok(true),
-        0x2_0000_0000_0000 if many => Ok(false),
+    let outcome = match (closed, answer) {
+        (Some(closed), _) => Ok(closed),
+        (None, 0x1_0000_0000_0000) if many => Ok(true),
+        (None, 0x2_0000_0000_0000) if many => Ok(false),
         _ => check::closed_outcome(m, &reading, file),
     };
     let shown = &file[..file.len().min(160)];
@@ -254,13 +242,20 @@ fn judge(r: &mut Rng, m: &Model, spaces: &Spaces, sheet: &[u8], file: &[u8], saf
     Ok((answer >> 48) as usize)
 }
 
-/// The states of a search copied, and a file judged; that of a Safe search must be accepted. Returns the answer's kind.
+/// The states of a search judged where they stand in its work space, and a file made of them: those of a Safe search are closed, and
+/// those of another are not. Returns the kind of the file's answer.
 fn evidence(r: &mut Rng, m: &Model, spaces: &Spaces, sheet: &[u8], work: &Part, answer: u64) -> Result<usize, String> {
-    let count = if answer >> 48 == 0 { 0 } else { (answer & 0xFF_FFFF) as usize };
-    copies(r, m, spaces, work, count)?;
-    let own = check::copied(m, spaces.work.bytes(work), count, usize::MAX).unwrap_or_default();
-    let file = damaged(r, &own);
-    judge(r, m, spaces, sheet, &file, answer >> 48 == 1 && file == own)
+    let (closed, count) = match answer >> 48 {
+        0 => (None, 0),
+        kind => (Some(kind == 1), (answer & 0xFF_FFFF) as usize),
+    };
+    let own: &[u8] = spaces.work.bytes(&Part { at: work.at, len: count * STATE });
+    spaces.work.access(READ);
+    judge(m, sheet, own, closed)?;
+    spaces.work.access(READ_WRITE);
+    let file = damaged(r, own);
+    let given = put(r, &spaces.file, &file);
+    judge(m, sheet, spaces.file.bytes(&given), closed.filter(|_| file == own))
 }
 
 /// The release list of a case: any bytes, or masks that are legal until something is missed.
@@ -331,7 +326,7 @@ fn case(r: &mut Rng, m: &Model, spaces: &Spaces, most_slots: usize, found: &mut 
         answer,
     };
     let mut list = list(r, m, &reading);
-    match (&reading, check::search_refusal(&reading, work_len, trace_len)) {
+    match (&reading, check::search_refusal(m, &reading, work_len, trace_len)) {
         (_, Some(number)) => check::refused(number, &call).map_err(told)?,
         (Ok(t), None) => {
             let v = verdict_of(answer).ok_or_else(|| told("no answer of the list".into()))?;
@@ -395,7 +390,9 @@ fn main() {
         i - from
     );
     println!("fuzz: as many replays with totals");
-    println!("fuzz: as many copies of states and files ({accepted} accepted, {no} no, {unread} refused)");
+    println!(
+        "fuzz: the states of each search judged, and as many files ({accepted} accepted, {no} no, {unread} refused)"
+    );
     println!("fuzz: as many sheets read and tables written, no fault");
 }
 

@@ -1,8 +1,9 @@
 //! The rules of document 01 written once more: sheet, table, tick, replay, and a search with plain sets; and those of document
 //! 02's closed lists (§1), least slack first (§3), equal jobs by age (§4) and where the core time went (§5), in bytes as include/ronchhek.h
-//! has them. Slow and direct; shares nothing with the library. Section names in the comments are document 01's. Tasks are
+//! has them. The columns of its work space (§6) are in layout.rs. Slow and direct; shares nothing with the library. Section names in the comments are document 01's. Tasks are
 //! counted from 0 here, so task i of this file is the document's task i + 1.
 
+use crate::layout::SLOT;
 use std::collections::{HashMap, HashSet};
 
 pub const TASKS: usize = 8;
@@ -184,7 +185,7 @@ pub const FAULTS: [&str; 34] = [
     "from a state of a file at most one task is released",
     "the bytes of a file after its last whole state are not looked at",
     "an empty file is refused before its sheet is read",
-    "a short space for states is judged before the slots",
+    "a slot takes 24 bytes of the work space",
     "least slack is ordered by the time left",
     "least slack is that of the state before the release",
     "least slack is that of the tick in which a job was released",
@@ -491,6 +492,11 @@ impl Model {
     }
 
     // The search.
+
+    /// K of a work space: its length divided by 21, rounded down, at most 1,000,000.
+    pub fn slots(&self, work_len: usize) -> usize {
+        (work_len / if self.fault == 15 { 24 } else { SLOT }).min(1_000_000)
+    }
 
     /// Level by level, all 256 masks from each state, until a miss, or no new state, or more than `limit` states.
     pub fn levels(&self, t: &Table, limit: usize) -> Levels {

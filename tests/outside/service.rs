@@ -1,7 +1,8 @@
 //! The differential test of totals: where the core time of a replayed list went.
 
 use crate::calls::{self, packed_replay};
-use crate::check::{self, Called, Play, SLOT};
+use crate::check::{self, Called, Play};
+use crate::layout::SLOT;
 use crate::model::{self, End, Replay, State, Table, Tick, Totals, POLICIES, STATE, TOTALS};
 use crate::rng::Rng;
 use crate::{gen, hex, table, Lent, Run, Subject, LIMIT};

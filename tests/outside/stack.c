@@ -7,13 +7,14 @@
 
 #include "ronchhek.h"
 
-enum { STACK = 4 << 20, PATTERN = 0xA5 };
+enum { STACK = 4 << 20, PATTERN = 0xA5, MOST_STATES = 1500000 };
+_Static_assert(MOST_STATES * RONCHHEK_STATE_BYTES >= RONCHHEK_MOST_SLOTS * RONCHHEK_SLOT_BYTES, "the longest file is longer than any work space");
 
 static uint8_t sheet[] = {3, 3, 2, 4, 2, 40, 60, 3, 50, 70, 4, 60, 80, 1, 3, 3}; /* of policy 3, and of 4 */
 static const uint8_t one_state[] = {3, 1, 1, 1, 1, 1, 1}; /* its only state is the start state */
 
 struct job {
-    enum { NOTHING, VERDICT, REPLAY, SERVICE, READ, WRITE, STATES, ACCEPTED, NO } kind;
+    enum { NOTHING, VERDICT, REPLAY, SERVICE, READ, WRITE, ACCEPTED, NO } kind;
     uint8_t *work, *trace;
     size_t slots;          /* or the states of a file, which are start states in the work space */
     uint64_t answer;
@@ -35,8 +36,6 @@ static void *run(void *given)
         ronchhek_read(sheet, sizeof sheet, table, sizeof table);
     if (job->kind == WRITE)
         ronchhek_write(table, sizeof table, out, sizeof out);
-    if (job->kind == STATES)
-        ronchhek_states(job->work, RONCHHEK_SLOT_BYTES, 1, state, sizeof state);
     if (job->kind == ACCEPTED)
         job->answer = ronchhek_closed(one_state, sizeof one_state, job->work, job->slots * RONCHHEK_STATE_BYTES);
     if (job->kind == NO)
@@ -101,9 +100,9 @@ static int file(struct job job, size_t thread)
 
 int main(void)
 {
-    static const size_t slots[] = {1, 2730, 16384, 16385, 65536, 262144, 262145, 1000000};
-    static const size_t states[] = {1, 12288, 12289, 49152, 49153, 1000000, 1500000};
-    uint8_t *work = malloc((size_t)RONCHHEK_MOST_SLOTS * RONCHHEK_SLOT_BYTES);
+    static const size_t slots[] = {1, 3120, 16384, 16385, 65536, 262144, 262145, 1000000};
+    static const size_t states[] = {1, 12288, 12289, 49152, 49153, 1000000, MOST_STATES};
+    uint8_t *work = malloc((size_t)MOST_STATES * RONCHHEK_STATE_BYTES);
     uint8_t *trace = malloc(RONCHHEK_MOST_SLOTS);
     if (!work || !trace) {
         fputs("stack: no memory\n", stderr);
@@ -112,9 +111,8 @@ int main(void)
     struct job job = {NOTHING, work, trace, 0, 0};
     size_t thread = used(&job); /* what a thread itself uses */
     int status = 0;
-    static const char *const names[] = {[REPLAY] = "replay", [SERVICE] = "replay with totals", [READ] = "read", [WRITE] = "write",
-                                        [STATES] = "copy of states"};
-    for (job.kind = REPLAY; job.kind <= STATES; job.kind++) {
+    static const char *const names[] = {[REPLAY] = "replay", [SERVICE] = "replay with totals", [READ] = "read", [WRITE] = "write"};
+    for (job.kind = REPLAY; job.kind <= WRITE; job.kind++) {
         size_t measured = used(&job) - thread;
         printf("stack of a %s: %zu of %d\n", names[job.kind], measured, RONCHHEK_STACK_REPLAY);
         if (measured > RONCHHEK_STACK_REPLAY)

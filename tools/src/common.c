@@ -138,7 +138,7 @@ const char *reason(unsigned refusal)
         [6] = "the tasks are not 1 to 8",
         [7] = "a task breaks 1 <= C <= D <= P <= 200",
         [8] = "bytes after the last task",
-        [9] = "the work space has no slot, or fewer than states are asked for",
+        [9] = "the work space has no slot",
         [10] = "the trace space is shorter than the slots are many",
         [11] = "a mask's bit for no task, or for a task that may not be released yet",
         [12] = "the space for the outcome is too short",

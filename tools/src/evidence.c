@@ -28,21 +28,13 @@ static bool write_whole(const char *path, const uint8_t *bytes, size_t len)
     return written;
 }
 
-void write_evidence(const char *path, const uint8_t *work, size_t work_len, size_t count)
+void write_evidence(const char *path, const uint8_t *work, size_t count)
 {
     struct stat there;
     if (lstat(path, &there) == 0 && !S_ISREG(there.st_mode))
         fail("%s: not a regular file", path);
-    size_t len = count * RONCHHEK_STATE_BYTES;
-    uint8_t *states = space(len);
-    uint64_t answer = ronchhek_states(work, work_len, count, states, len);
-    if (RONCHHEK_KIND(answer) != RONCHHEK_DONE || RONCHHEK_COUNT(answer) != len)
-        fail("the states of a search cannot be copied out");
-    bool written = write_whole(path, states, len);
-    int cause = errno;
-    free(states);
-    if (!written)
-        fail("%s: %s", path, strerror(cause));
+    if (!write_whole(path, work, count * RONCHHEK_STATE_BYTES))
+        fail("%s: %s", path, strerror(errno));
 }
 
 bool evidence(struct args *args)

@@ -11,7 +11,7 @@ static const struct command {
     {"verdict", "SHEET [--slots K] [--evidence FILE]",
      "    Whether some pattern of releases makes a job late. Prints `safe N`, `unsafe L N` and then the L masks of a shortest\n"
      "    list that misses, one a line, `room K` where the space does not suffice to tell, or `refused R`. K is 0 to 1000000\n"
-     "    slots of 24 bytes, with a trace byte for each; without --slots 2730, in 65520 bytes, with 8192 of trace.\n"
+     "    slots of 21 bytes, with a trace byte for each; without --slots 3120, in 65520 bytes, with 8192 of trace.\n"
      "    On `safe` --evidence writes the states found to FILE, 16 bytes each, for `evidence`: the whole file or none, and FILE must\n"
      "    be a regular file or not there yet. On any other answer FILE is left as it is, which a line on standard error says.\n",
      verdict},

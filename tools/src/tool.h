@@ -52,8 +52,9 @@ void read_played(const struct bytes *sheet, uint8_t *table);
 /* The first line of a replay's answer: `kept`, `missed T`, or `refused R`, with the tick after it where R is 11. */
 void print_outcome(uint64_t answer);
 
-/* Writes the states of a Safe search, those of its first `count` slots, to a file: all of them, or fails and leaves what was there. */
-void write_evidence(const char *path, const uint8_t *work, size_t work_len, size_t count);
+/* Writes the states of a Safe search, `count` of them at the front of its work space, to a file: all of them, or fails and leaves what
+ * was there. */
+void write_evidence(const char *path, const uint8_t *work, size_t count);
 
 /* The policies by number: what they are called, and what they do. */
 enum { POLICIES = 5 };

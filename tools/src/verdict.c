@@ -29,10 +29,10 @@ static void print_answer(uint64_t answer, const uint8_t *trace)
 }
 
 /* Comes before the verdict's lines, so that whoever reads `safe` has the file. */
-static void keep_evidence(const char *path, uint64_t answer, const uint8_t *work, size_t work_len)
+static void keep_evidence(const char *path, uint64_t answer, const uint8_t *work)
 {
     if (RONCHHEK_KIND(answer) == RONCHHEK_SAFE)
-        write_evidence(path, work, work_len, RONCHHEK_COUNT(answer));
+        write_evidence(path, work, RONCHHEK_COUNT(answer));
     else
         fprintf(stderr, "ronchhek: %s: not written, since the answer is not `safe`\n", path);
 }
@@ -53,7 +53,7 @@ bool verdict(struct args *args)
     uint8_t *work = space(work_len), *trace = space(trace_len);
     uint64_t answer = ronchhek_verdict(sheet.at, sheet.len, work, work_len, trace, trace_len);
     if (path)
-        keep_evidence(path, answer, work, work_len);
+        keep_evidence(path, answer, work);
     print_answer(answer, trace);
     free(sheet.at);
     free(work);

@@ -12,28 +12,11 @@ use Rattle.tasks.specs.State.{start}
 use Rattle.tasks.specs.declared.state.State.{State}
 use Rattle.lists.proofs.Fill.{eight-at}
 use Rattle.levels.specs.Verdict.{Holds}
-use Rattle.states.specs.Keys.{keyOf, sameKeys}
+use Rattle.states.specs.Keys.{keyOf, sameKeys, keyIn}
 use Rattle.states.specs.declared.keys.Key.{Key}
 use Rattle.states.proofs.KeyLaws.{key-from, Bytes, bytes-from, one-state, keys-same, keys-differ}
-use Rattle.closed.specs.Closed.{stateIn}
-use Rattle.closed.specs.Keeping.{keyIn, HeldIs, NamedIs}
-
--- the key of a state of the file
-pub key-in : (file : List ℕ) (i : ℕ) → keyIn file i ≡ keyOf (stateIn file i)
-unfolding keyIn stateIn
-key-in file i = key-from file (16 * i)
-
-file-bytes : (file : List ℕ) (i : ℕ) → ((k : ℕ) → Fits w8 (getD file k 0)) → Bytes (stateIn file i)
-unfolding stateIn
-file-bytes file i fits = bytes-from file (16 * i) fits
-
--- LAW: a state is known by its key
-pub held : (file : List ℕ) {n : ℕ} (s : State) → ((k : ℕ) → Fits w8 (getD file k 0)) → Bytes s → Holds (keyIn file) n (keyOf s) → Holds (stateIn file) n s
-held file s fits bytes h =
-    record { place = h .place; below = h .below; same = one-state (file-bytes file (h .place) fits) bytes (sym (key-in file (h .place)) ∙ h .same) }
-
-pub held-key : (file : List ℕ) {n : ℕ} (s : State) → Holds (stateIn file) n s → Holds (keyIn file) n (keyOf s)
-held-key file s h = record { place = h .place; below = h .below; same = key-in file (h .place) ∙ ap keyOf (h .same) }
+use Rattle.states.specs.Bytes.{stateIn}
+use Rattle.closed.specs.Keeping.{HeldIs, NamedIs}
 
 -- ---- what is compared
 

@@ -18,7 +18,8 @@ use Rattle.tasks.proofs.Answered.{ticked-legal}
 use Rattle.states.specs.Keys.{keyOf}
 use Rattle.states.proofs.MaskLaws.{legal-submask}
 use Rattle.states.proofs.SystemLaws.{step-missed}
-use Rattle.closed.specs.Closed.{statesIn, stateIn, Contains, Leads, Closed}
+use Rattle.states.specs.Bytes.{stateIn}
+use Rattle.closed.specs.Closed.{statesIn, Contains, Leads, Closed}
 use Rattle.closed.specs.Keeping.{classOf, lands, Due, RowOf, Between, Every, Sound, Inside}
 use Rattle.closed.specs.declared.passes.Split.{Split}
 use Rattle.closed.specs.declared.passes.Pass.{Pass}

@@ -13,14 +13,15 @@ use Rattle.tasks.specs.Tick.{after}
 use Rattle.tasks.specs.declared.state.State.{State}
 use Rattle.tasks.specs.declared.table.Table.{Table}
 use Rattle.levels.specs.Verdict.{Holds}
-use Rattle.states.specs.Keys.{keyOf}
+use Rattle.states.specs.Keys.{keyOf, keyIn}
 use Rattle.states.specs.declared.keys.Key.{Key}
 use Rattle.states.proofs.KeyLaws.{Bytes}
-use Rattle.closed.specs.Closed.{statesIn, stateIn, Closed}
-use Rattle.closed.specs.Keeping.{keyIn, keyAt, classOf, Due, RowOf, Inside, AllHeld, Grown, Added, AfterWaits, From, RowWaits}
+use Rattle.states.specs.Bytes.{stateIn}
+use Rattle.closed.specs.Closed.{statesIn, Closed}
+use Rattle.closed.specs.Keeping.{keyAt, classOf, Due, RowOf, Inside, AllHeld, Grown, Added, AfterWaits, From, RowWaits}
 use Rattle.closed.specs.declared.passes.Split.{Split}
 use Rattle.closed.specs.declared.passes.Pass.{Pass}
-use Rattle.closed.proofs.FileLaws.{held, held-key}
+use Rattle.states.proofs.ColumnLaws.{held, held-key}
 use Rattle.closed.proofs.InsideLaws.{closed-after, RowsTo, rows-start, rows-next, rows-end}
 
 -- ---- a key is put behind the others

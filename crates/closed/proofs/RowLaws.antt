@@ -35,7 +35,8 @@ use Rattle.states.specs.System.{system}
 use Rattle.states.proofs.MaskTest.{submask}
 use Rattle.states.proofs.SystemLaws.{step-missed}
 use Rattle.states.proofs.MaskLaws.{Walked, walked-start, walked-next, submask-legal, legal-submask}
-use Rattle.closed.specs.Closed.{statesIn, stateIn, Closed}
+use Rattle.states.specs.Bytes.{stateIn}
+use Rattle.closed.specs.Closed.{statesIn, Closed}
 use Rattle.closed.specs.Keeping.{classOf, landing, lands, Due, RowOf, SoundState, StateIs, Sound, Ready, keyAt, AllHeld, Grown, AfterWaits, From, RowWaits}
 use Rattle.closed.specs.declared.passes.Split.{Split}
 use Rattle.closed.specs.declared.passes.Pass.{Pass}

@@ -16,7 +16,7 @@ use Rattle.tasks.specs.declared.state.State.{State}
 use Rattle.tasks.specs.declared.table.Table.{Table}
 use Rattle.tasks.specs.declared.tick.TickAnswer.the-variants as Answer
 use Rattle.levels.specs.Verdict.{Holds}
-use Rattle.states.specs.Bytes.{stateFrom}
+use Rattle.states.specs.Bytes.{stateIn}
 use Rattle.closed.specs.declared.check.ClosedAnswer.{ClosedAnswer}
 use Rattle.closed.specs.declared.check.ClosedAnswer.the-variants as ClosedAnswer
 
@@ -25,10 +25,6 @@ use Rattle.closed.specs.declared.check.ClosedAnswer.the-variants as Clos
 -- "The file is states of 16 bytes each, in any sequence, repeats allowed": how many
 unfoldable pub statesIn : List ℕ → ℕ
 statesIn file = length file / 16
-
--- .. and state i of them, counted from 0
-unfoldable pub stateIn : List ℕ → ℕ → State
-stateIn file i = stateFrom file (16 * i)
 
 -- the file contains s
 abbrev pub Contains : List ℕ → State → Type 0

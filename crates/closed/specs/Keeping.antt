@@ -18,20 +18,17 @@ use Rattle.tasks.specs.declared.table.Table.{Table}
 use Rattle.tasks.specs.declared.ticker.Ticker.{Ticker}
 use Rattle.levels.specs.Verdict.{Holds}
 use Rattle.levels.specs.Levels.{Calm}
-use Rattle.states.specs.Keys.{keyOf, keyFrom, mixed}
+use Rattle.states.specs.Keys.{keyOf, keyIn, mixed}
 use Rattle.states.specs.System.{system}
 use Rattle.states.specs.declared.keys.Key.{Key}
-use Rattle.closed.specs.Closed.{statesIn, stateIn, Contains, Closed}
+use Rattle.states.specs.Bytes.{stateIn}
+use Rattle.closed.specs.Closed.{statesIn, Contains, Closed}
 use Rattle.closed.specs.declared.cells.Probed.{Probed}
 use Rattle.closed.specs.declared.cells.Probed.the-variants as Probed
 use Rattle.closed.specs.declared.passes.Split.{Split}
 use Rattle.closed.specs.declared.passes.Pass.{Pass}
 
 -- ---- lookups
-
--- the key of state i
-unfoldable pub keyIn : List ℕ → ℕ → Key
-keyIn file i = keyFrom file (16 * i)
 
 -- true where one of the first n states has the key, false where none does
 abbrev pub HeldIs : List ℕ → ℕ → Key → Bool → Type 0

@@ -5,9 +5,9 @@ ghost use mathlib.Core.Path.{_≡_};
 ghost use Prim.Native.Nat.{_+_, _*_, _<_, _≤_};
 ghost use lib.ListN.{length};
 ghost use Rattle.closed.specs.Keeping.{HeldIs, NamedIs, ProbeIs};
-use crate::file::key_in;
 use crate::file::scan;
 use states::Key;
+use states::key_in;
 use states::mix;
 use states::same_keys;
 

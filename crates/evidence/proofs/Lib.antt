@@ -1,3 +1,2 @@
--- Laws that several proofs cite, and the theorems.
-pub mod CopyLaws
+-- The theorems.
 pub mod Theorems

@@ -1,4 +1,1 @@
-// The evidence of a Safe verdict: the states that a search left, copied out as a file.
-mod copy;
-
-pub use copy::copy_states;
+// The evidence of a Safe verdict: the file that a search leaves, and that it is accepted. Definitions in specs/, theorems in proofs/.

@@ -15,7 +15,7 @@ use Rattle.tasks.specs.declared.writer.Writing.the-variants as Writing
 use Rattle.lists.specs.Lists.{pick}
 use Rattle.lists.proofs.Bools.{by-bool}
 use Rattle.tasks.specs.declared.play.Replayed.{Replayed}
-use Rattle.search.specs.Slot.{stateSpace}
+use Rattle.slots.specs.StateSpace.{stateSpace}
 use Rattle.ronchhek.specs.Replays.{refusedAt, outcomeNumber, tableNumber, tableSpace}
 
 -- the answer of a replay that is another

@@ -6,12 +6,6 @@ use mathlib.Core.Logic.{_↔_}
 use mathlib.Core.List.{List}
 use Rattle.tasks.specs.Sheet.{sheetOf}
 use Rattle.closed.specs.Closed.{Closed, sheetFileRefusal}
-use Rattle.evidence.specs.Evidence.{copyRefusal}
-use Rattle.ronchhek.specs.Tables.{done}
-
--- the states of the first `count` slots of a work space, copied out: kind 1 done with N the length written. The space afterwards is `statesSpace` of `evidence`
-unfoldable pub statesNumber : List ℕ → ℕ → List ℕ → ℕ
-statesNumber work count out = done (copyRefusal work count out) (16 * count)
 
 -- a file judged: kind 1 accepted, "exactly when" the file is closed, and kind 2 No in every other case that is not refused; N is 0 for both
 pub record FileJudged (sheet file : List ℕ) (number : ℕ) : Type 0 where

@@ -16,7 +16,7 @@ use Rattle.tasks.specs.declared.play.Outcome.{Outcome}
 use Rattle.tasks.specs.declared.play.Outcome.the-variants.{Kept, Missed}
 use Rattle.tasks.specs.declared.play.ReplayAnswer.{ReplayAnswer}
 use Rattle.tasks.specs.declared.play.ReplayAnswer.the-variants.{Played, Refused}
-use Rattle.search.specs.Slot.{stateSpace}
+use Rattle.slots.specs.StateSpace.{stateSpace}
 
 -- a refusal's number, and the tick's
 abbrev pub refusedAt : ℕ → ℕ → ℕ

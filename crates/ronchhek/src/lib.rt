@@ -1,4 +1,4 @@
-// The calls for C, thin over `tasks`, `service`, `search` and `evidence`: a sheet's verdict, its evidence, the replay of a list and its totals, and a sheet's
+// The calls for C, thin over `tasks`, `service`, `search` and `closed`: a sheet's verdict, its evidence, the replay of a list and its totals, and a sheet's
 // table as bytes.
 mod files;
 mod replays;
@@ -7,7 +7,6 @@ mod tables;
 mod verdicts;
 
 pub use files::ronchhek_closed;
-pub use files::ronchhek_states;
 pub use replays::ronchhek_replay;
 pub use services::ronchhek_service;
 pub use tables::ronchhek_read;

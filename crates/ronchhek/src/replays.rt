@@ -43,7 +43,7 @@ fn replay_table(t: Table, list: &[u8], state: &mut [u8]) -> u64
     let last = played.state;
     match answer {
         ReplayAnswer::Refused(r, tick) => refused_at(r, tick),
-        ReplayAnswer::Played(o) => match search::write_state(last, state) {
+        ReplayAnswer::Played(o) => match slots::write_state(last, state) {
             Writing::Refused(r) => refused_at(r, 0),
             Writing::Written(_) => outcome_number(o),
         },

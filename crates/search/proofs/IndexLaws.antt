@@ -13,36 +13,32 @@ use borrow.Author.Count.{below-more}
 use native.Mathlib.Numerals.{add-one}
 use lib.ListN.{length, getD, set, length-set}
 use lib.Seq.{getD-set-same, getD-set-other}
-use mir.Syntax.{w8}
-use mir.Val.{Fits}
 use Rattle.tasks.specs.declared.state.State.{State}
 use Rattle.levels.specs.Index.{Index}
 use Rattle.levels.specs.Verdict.{Holds}
 use Rattle.levels.proofs.Index.{index-start, index-push}
-use Rattle.states.specs.Keys.{keyOf}
-use Rattle.search.specs.Slot.{stateAt, linkAt, keyAt, bucketFor, bucketOf, tagOf, newest, tagsIn, Indexed, Pushed}
-use Rattle.search.proofs.SlotLaws.{same-state, same-parent, same-mask}
-use Rattle.search.proofs.SlotLaws.{withSlot, slot-long, slot-old, link-old, slot-state, slot-parent, slot-mask, slot-link, slot-later}
-use Rattle.states.proofs.KeyLaws.{key-from, Bytes, bytes-from, one-state}
+use Rattle.states.specs.Bytes.{stateIn}
+use Rattle.states.specs.Keys.{keyIn, keyOf}
+use Rattle.states.proofs.ColumnLaws.{key-in}
+use Rattle.slots.specs.Running.{linkAt}
+use Rattle.slots.proofs.RunningLaws.{Put}
+use Rattle.search.specs.Indexed.{bucketFor, bucketOf, tagOf, newest, tagsIn, Indexed, Pushed}
 
 -- no slot is written, and every head is 0
-pub indexed-start : (w heads : List ℕ) → 0 < length heads → ((b : ℕ) → getD heads b 0 ≡ 0) → Indexed w heads 0
+pub indexed-start :
+    {K : ℕ} (w heads : List ℕ) → K ≤ 1000000 → 21 * K ≤ length w → 0 < length heads → ((b : ℕ) → getD heads b 0 ≡ 0) → Indexed K w heads 0
 unfolding newest
-indexed-start w heads h zeros =
+indexed-start w heads few fits h zeros =
     record {
       some = h;
-      few = omega arith;
-      fits = omega arith;
+      few = few;
+      room = omega arith;
+      fits = fits;
       index = index-start (λ b. rw (zeros b));
       tagged = λ j b. absurd (omega arith);
     }
 
 -- ---- a walk by keys
-
--- the key of a slot is that of its state
-key-at : (w : List ℕ) (i : ℕ) → keyAt w i ≡ keyOf (stateAt w i)
-unfolding keyAt stateAt
-key-at w i = key-from w (24 * i)
 
 index-by : {S T : Type 0} (f : S → T) (hash : T → ℕ) (at : ℕ → S) {head link : ℕ → ℕ} {n : ℕ} → Index (λ s. hash (f s)) at head link n
     → Index hash (λ i. f (at i)) head link n
@@ -56,29 +52,17 @@ index-by f hash at x = record {
 }
 
 -- the index is one of the slots' keys too
-pub keyed : {w heads : List ℕ} {n : ℕ} → Indexed w heads n → Index (bucketFor (length heads)) (keyAt w) (newest heads) (linkAt w) n
+pub keyed : {K : ℕ} {w heads : List ℕ} {n : ℕ} → Indexed K w heads n → Index (bucketFor (length heads)) (keyIn w) (newest heads) (linkAt K w) n
 unfolding bucketOf
-keyed {w} {heads} {n} x =
-    let e : (λ i. keyOf (stateAt w i)) ≡ keyAt w = (λ q i. sym (key-at w i) q) in
-    rw e at (index-by keyOf (bucketFor (length heads)) (stateAt w) (x .index))
-
-slot-bytes : (w : List ℕ) (i : ℕ) → ((k : ℕ) → Fits w8 (getD w k 0)) → Bytes (stateAt w i)
-unfolding stateAt
-slot-bytes w i fits = bytes-from w (24 * i) fits
-
--- a slot with the key of s holds s
-pub held : (w : List ℕ) (s : State) (n i : ℕ) → ((k : ℕ) → Fits w8 (getD w k 0)) → Bytes s → i < n → keyAt w i ≡ keyOf s → Holds (stateAt w) n s
-held w s n i fits bytes b e = record { place = i; below = b; same = one-state (slot-bytes w i fits) bytes (sym (key-at w i) ∙ e) }
-
--- no slot has the key of s: none holds s
-pub not-held : (w : List ℕ) (s : State) (n : ℕ) → (Holds (keyAt w) n (keyOf s) → ⊥) → Holds (stateAt w) n s → ⊥
-not-held w s n none h = none (record { place = h .place; below = h .below; same = key-at w (h .place) ∙ ap keyOf (h .same) })
+keyed {K} {w} {heads} {n} x =
+    let e : (λ i. keyOf (stateIn w i)) ≡ keyIn w = (λ q i. sym (key-in w i) q) in
+    rw e at (index-by keyOf (bucketFor (length heads)) (stateIn w) (x .index))
 
 -- no slot of the bucket has the tag of s: none holds s
 pub not-tagged :
-    {w heads : List ℕ} {n : ℕ} → Indexed w heads n → (s : State)
-    → bitAnd (tagsIn heads (bucketOf (length heads) s)) (2 ^ tagOf s) ≡ 0 → Holds (stateAt w) n s → ⊥
-not-tagged {w} {heads} x s e h =
+    {K : ℕ} {w heads : List ℕ} {n : ℕ} → Indexed K w heads n → (s : State)
+    → bitAnd (tagsIn heads (bucketOf (length heads) s)) (2 ^ tagOf s) ≡ 0 → Holds (stateIn w) n s → ⊥
+not-tagged {K} {w} {heads} x s e h =
     clash (rw (h .same) at (x .tagged (h .place) (h .below))) (tag-off (tagsIn heads (bucketOf (length heads) s)) (tagOf s) e)
 
 -- ---- a pushed slot
@@ -87,9 +71,9 @@ not-tagged {w} {heads} x s e h =
 abbrev headWith : ℕ → ℕ → ℕ → ℕ
 headWith tags tag n = bitOr tags (2 ^ tag) * 1048576 + suc n
 
--- slot n goes to the front of the chain of its bucket b, and its link is the slot that was there
-module _ {w heads : List ℕ} {n : ℕ} (x : Indexed w heads n) (s : State) (parent mask b : ℕ) (room : 24 * n + 24 ≤ length w) (few : n < 1000000)
-    (bytes : Bytes s) (small : parent < 4294967296) (here : b ≡ bucketOf (length heads) s) (low : b < length heads) where
+-- slot n goes to the front of the chain of its bucket b, and the link in its word is the slot that was there
+module _ {K : ℕ} {w heads : List ℕ} {n : ℕ} (x : Indexed K w heads n) {w′ : List ℕ} {s : State} {word mask : ℕ} (put : Put K w w′ n s word mask) (below : n < K)
+    (b : ℕ) (link : word % 1048576 ≡ newest heads b) (here : b ≡ bucketOf (length heads) s) (low : b < length heads) where
   abbrev heads₁ : List ℕ
   heads₁ = set heads b (headWith (tagsIn heads b) (tagOf s) n)
 
@@ -101,28 +85,32 @@ module _ {w heads : List ℕ} {n : ℕ} (x : Indexed w heads n) (s : State) (par
 
   new-newest : newest heads₁ b ≡ suc n
   unfolding newest
-  new-newest = rw new-head (omega arith)
+  new-newest = let f = x .few in rw new-head (omega arith)
 
   new-tags : tagsIn heads₁ b ≡ bitOr (tagsIn heads b) (2 ^ tagOf s)
   unfolding tagsIn
-  new-tags = ap (λ h. h / 1048576) new-head ∙ whole (bitOr (tagsIn heads b) (2 ^ tagOf s))
+  new-tags = let f = x .few in ap (λ h. h / 1048576) new-head ∙ whole (bitOr (tagsIn heads b) (2 ^ tagOf s))
     where
       whole : (y : ℕ) → (y * 1048576 + suc n) / 1048576 ≡ y
-      whole y = omega arith
+      whole y = let f = x .few in omega arith
 
-  grown :
-      Index (bucketOf (length heads)) (stateAt (withSlot w n s parent mask (newest heads b))) (newest heads₁)
-      (linkAt (withSlot w n s parent mask (newest heads b))) (n + 1)
+  link-old : (j : ℕ) → j < n → linkAt K w′ j ≡ linkAt K w j
+  unfolding linkAt
+  link-old j h = ap (λ v. v % 1048576) (put .words j h)
+
+  link-new : linkAt K w′ n ≡ newest heads b
+  unfolding linkAt
+  link-new = ap (λ v. v % 1048576) (put .word-is) ∙ link
+
+  grown : Index (bucketOf (length heads)) (stateIn w′) (newest heads₁) (linkAt K w′) (n + 1)
   unfolding newest
   grown =
-      let link = newest heads b in
       rw (add-one n)
-      (index-push {head′ = newest heads₁} (x .index) (λ j h. same-state (slot-old w n s parent mask link room j h))
-      (slot-state w n s parent mask link room (bytes .c-length) (bytes .p-length))
+      (index-push {head′ = newest heads₁} (x .index) (put .states) (put .state)
       (λ j ne. ap (λ h. h % 1048576) (old-head j (λ q. ne (q ∙ here))))
       (rw (← here) new-newest)
-      (λ j h. link-old w n s parent mask link room j h)
-      (slot-link w n s parent mask link room (omega (arith, x .index .head-low b)) ∙ ap (newest heads) here))
+      link-old
+      (link-new ∙ ap (newest heads) here))
 
   -- a tag in the heads stays
   old-tag : (u : State) → bit (tagsIn heads (bucketOf (length heads) u)) (tagOf u) ≡ true → bit (tagsIn heads₁ (bucketOf (length heads) u)) (tagOf u) ≡ true
@@ -133,31 +121,29 @@ module _ {w heads : List ℕ} {n : ℕ} (x : Indexed w heads n) (s : State) (par
         | no q ↦ rw (old-head (bucketOf (length heads) u) q) e
       ]
 
-  tagged₁ : (j : ℕ) → j < n + 1 → bit (tagsIn heads₁ (bucketOf (length heads) (stateAt (withSlot w n s parent mask (newest heads b)) j))) (tagOf (stateAt (withSlot w n s parent mask (newest heads b)) j)) ≡ true
+  tagged₁ : (j : ℕ) → j < n + 1 → bit (tagsIn heads₁ (bucketOf (length heads) (stateIn w′ j))) (tagOf (stateIn w′ j)) ≡ true
   tagged₁ =
-      below-more (λ j. bit (tagsIn heads₁ (bucketOf (length heads) (stateAt (withSlot w n s parent mask (newest heads b)) j))) (tagOf (stateAt (withSlot w n s parent mask (newest heads b)) j)) ≡ true) n
-      (λ j h. rw (same-state (slot-old w n s parent mask (newest heads b) room j h)) (old-tag (stateAt w j) (x .tagged j h)))
-      (rw (slot-state w n s parent mask (newest heads b) room (bytes .c-length) (bytes .p-length), ← here, new-tags) (tag-set (tagsIn heads b) (tagOf s)))
+      below-more (λ j. bit (tagsIn heads₁ (bucketOf (length heads) (stateIn w′ j))) (tagOf (stateIn w′ j)) ≡ true) n
+      (λ j h. rw (put .states j h) (old-tag (stateIn w j) (x .tagged j h)))
+      (rw (put .state, ← here, new-tags) (tag-set (tagsIn heads b) (tagOf s)))
 
-  pub pushed : Pushed w (withSlot w n s parent mask (newest heads b)) heads heads₁ n s parent mask
-  pushed =
-      let link = newest heads b in
-      let long = slot-long w n s parent mask link room in
+  pub pushed : {parent : ℕ} → word / 1048576 ≡ parent % 4096 → Pushed K w w′ heads heads₁ n s parent mask
+  pushed place =
       let same = length-set heads b (headWith (tagsIn heads b) (tagOf s) n) in
       record {
-        len = long;
-        heads-len = same;
-        states = λ j h. same-state (slot-old w n s parent mask link room j h);
-        parents = λ j h. same-parent (slot-old w n s parent mask link room j h);
-        masks = λ j h. same-mask (slot-old w n s parent mask link room j h);
-        state = slot-state w n s parent mask link room (bytes .c-length) (bytes .p-length);
-        parent-is = slot-parent w n s parent mask link room small;
-        mask-is = slot-mask w n s parent mask link room;
-        later = slot-later w n s parent mask link room;
+        len = put .len;
+        states = put .states;
+        words = put .words;
+        masks = put .masks;
+        state = put .state;
+        place = ap (λ v. v / 1048576) (put .word-is) ∙ place;
+        mask-is = put .mask-is;
+        rest = put .rest;
         indexed = record {
           some = rw same (x .some);
-          few = omega arith;
-          fits = omega arith;
+          few = x .few;
+          room = omega arith;
+          fits = (let f = x .fits in let l = put .len in omega arith);
           index = rw same grown;
           tagged = rw same tagged₁;
         };

@@ -1,9 +1,10 @@
--- Only the search's bookkeeping, no part of its claim: what its parts ask of each other and promise.
+-- Only the search's bookkeeping, no part of its claim: what its parts ask of each other and promise. K slots stand in w in the layout while the search runs
+-- (Running.antt of `slots`), and ends are the ends of its blocks.
 use mathlib.Core.Path.{_≡_}
 use mathlib.Core.Bool.{false}
-use mathlib.Core.List.{List, _∷_, _++_}
+use mathlib.Core.List.{List, [], _∷_, _++_}
 use Prim.Native.Nat.{ℕ, suc, _+_, _*_, _≤_, _<_}
-use lib.ListN.{length, getD, take, drop}
+use lib.ListN.{length, getD, drop}
 use Rattle.tasks.specs.Table.{tableFault}
 use Rattle.tasks.specs.State.{improper}
 use Rattle.tasks.specs.Tick.{after}
@@ -12,178 +13,208 @@ use Rattle.tasks.specs.declared.table.Table.{Table}
 use Rattle.levels.specs.Verdict.{Answer, Verdict, Holds}
 use Rattle.levels.specs.Verdict.Answer.{Unsafe, Safe, NoRoom}
 use Rattle.levels.specs.Verdict as levels
-use Rattle.levels.specs.Slots.{SlotRule, Stored, Complete, countOf, masksOf}
+use Rattle.levels.specs.Slots.{SlotRule, Stored, Complete, countOf}
 use Rattle.levels.specs.Levels.{trail, Before, Hunting, Filling}
-use Rattle.search.specs.Claim.{slotsIn}
+use Rattle.states.specs.Bytes.{stateIn}
 use Rattle.states.specs.System.{step, system}
-use Rattle.search.specs.Slot.{stateAt, parentAt, maskAt, Indexed, Pushed}
+use Rattle.slots.specs.Layout.{columns, parentAt, maskAt, Stays}
+use Rattle.slots.specs.Running.{parentIn, Marked}
+use Rattle.search.specs.Claim.{slotsIn}
+use Rattle.search.specs.Indexed.{Indexed, Pushed}
 use Rattle.search.specs.declared.hunt.HuntAnswer.{HuntAnswer}
 use Rattle.search.specs.declared.hunt.HuntAnswer.the-variants.{Miss, Clear}
 use Rattle.search.specs.declared.store.Attempt.{Attempt}
 use Rattle.search.specs.declared.store.Attempt.the-variants as Attempt
 use Rattle.search.specs.declared.store.Filled.{Filled}
 use Rattle.search.specs.declared.store.Filled.the-variants as Filled
+use Rattle.search.specs.declared.run.End.{End}
+use Rattle.search.specs.declared.run.End.the-variants as End
 use Rattle.search.specs.declared.run.SearchAnswer.{SearchAnswer}
 use Rattle.search.specs.declared.run.SearchAnswer.the-variants as SearchAnswer
 
 -- ---- levels' invariants over the slots of a work space
 
-abbrev pub FillingIn : Table → List ℕ → ℕ → ℕ → ℕ → ℕ → (ℕ → ℕ → Type 0) → Type 0
-FillingIn t w lo hi n d T = Filling (system t) (stateAt w) (parentAt w) (maskAt w) 0 lo hi n d T
+abbrev pub FillingIn : Table → ℕ → List ℕ → List ℕ → ℕ → ℕ → ℕ → ℕ → (ℕ → ℕ → Type 0) → Type 0
+FillingIn t K ends w lo hi n d T = Filling (system t) (stateIn w) (parentIn K ends w) (maskAt (columns K) w) 0 lo hi n d T
 
 -- ---- the hunt
 
 -- a valid table, and hi slots with proper states
 pub record Level (t : Table) (w : List ℕ) (hi : ℕ) : Type 0 where
   pub valid : tableFault t ≡ 0
-  pub fits : 24 * hi ≤ length w
-  pub proper : (i : ℕ) → i < hi → improper t (stateAt w i) ≡ false
+  pub fits : 16 * hi ≤ length w
+  pub proper : (i : ℕ) → i < hi → improper t (stateIn w i) ≡ false
 
 -- mask m misses from slot i of the level
 pub record MissFrom (t : Table) (w : List ℕ) (lo hi i m : ℕ) : Type 0 where
   pub from : lo ≤ i
   pub below : i < hi
-  pub missed : step t (stateAt w i) m ≡ levels.Tick.Missed (after t (stateAt w i) m)
+  pub missed : step t (stateIn w i) m ≡ levels.Tick.Missed (after t (stateIn w i) m)
 
 abbrev pub HuntIs : Table → List ℕ → ℕ → ℕ → HuntAnswer → Type 0
 HuntIs t w lo hi (Miss i m) = MissFrom t w lo hi i m
-HuntIs t w lo hi Clear = Hunting (system t) (stateAt w) lo hi
+HuntIs t w lo hi Clear = Hunting (system t) (stateIn w) lo hi
 
 -- ---- storing
 
--- n slots are filled and indexed, and k of them fit the work space
-pub record Room (w heads : List ℕ) (n k : ℕ) : Type 0 where
-  pub room : n ≤ k
-  pub few : k ≤ 1000000
-  pub fits : 24 * k ≤ length w
-  pub indexed : Indexed w heads n
-
 -- state u, to which slot i leads under mask m: the slots hold it; or slot n does now; or they are full, without it
 pub record Known (w w′ heads heads′ : List ℕ) (n : ℕ) (u : State) : Type 0 where
-  pub held : Holds (stateAt w) n u
+  pub held : Holds (stateIn w) n u
   pub same : w′ ≡ w
   pub same-heads : heads′ ≡ heads
 
-pub record Added (w w′ heads heads′ : List ℕ) (n k : ℕ) (u : State) (i m : ℕ) : Type 0 where
-  pub below : n < k
-  pub absent : Holds (stateAt w) n u → ⊥
-  pub pushed : Pushed w w′ heads heads′ n u i m
+pub record Added (K : ℕ) (w w′ heads heads′ : List ℕ) (n : ℕ) (u : State) (i m : ℕ) : Type 0 where
+  pub below : n < K
+  pub absent : Holds (stateIn w) n u → ⊥
+  pub pushed : Pushed K w w′ heads heads′ n u i m
 
-pub record Crowded (w w′ : List ℕ) (n k : ℕ) (u : State) : Type 0 where
-  pub full : n ≡ k
-  pub absent : Holds (stateAt w) n u → ⊥
+pub record Crowded (K : ℕ) (w w′ : List ℕ) (n : ℕ) (u : State) : Type 0 where
+  pub full : n ≡ K
+  pub absent : Holds (stateIn w) n u → ⊥
   pub same : w′ ≡ w
 
-abbrev pub Attempted : List ℕ → List ℕ → List ℕ → List ℕ → ℕ → ℕ → State → ℕ → ℕ → Attempt → Type 0
-Attempted w w′ heads heads′ n k u i m Attempt.Nothing = Known w w′ heads heads′ n u
-Attempted w w′ heads heads′ n k u i m Attempt.New = Added w w′ heads heads′ n k u i m
-Attempted w w′ heads heads′ n k u i m Attempt.Full = Crowded w w′ n k u
+abbrev pub Attempted : ℕ → List ℕ → List ℕ → List ℕ → List ℕ → ℕ → State → ℕ → ℕ → Attempt → Type 0
+Attempted K w w′ heads heads′ n u i m Attempt.Nothing = Known w w′ heads heads′ n u
+Attempted K w w′ heads heads′ n u i m Attempt.New = Added K w w′ heads heads′ n u i m
+Attempted K w w′ heads heads′ n u i m Attempt.Full = Crowded K w w′ n u
 
--- from n to n′ slots, of which the first n stay, and so do the bytes after the n′
-pub record Kept (w w′ : List ℕ) (n n′ : ℕ) : Type 0 where
+-- from n to n′ slots, of which the states of the first n stay, and so do the bytes that are in none of the n′
+pub record Kept (K : ℕ) (w w′ : List ℕ) (n n′ : ℕ) : Type 0 where
   pub order : n ≤ n′
   pub len : length w′ ≡ length w
-  pub states : (j : ℕ) → j < n → stateAt w′ j ≡ stateAt w j
-  pub later : drop (24 * n′) w′ ≡ drop (24 * n′) w
+  pub states : (j : ℕ) → j < n → stateIn w′ j ≡ stateIn w j
+  pub rest : Stays (columns K) n′ w w′
 
 -- every slot is filled with a state reached, and there is one more: no room
-pub record Overfull (t : Table) (w : List ℕ) (k : ℕ) : Type 0 where
-  pub verdict : (trace : List ℕ) → Verdict (system t) k (NoRoom k) trace
-  pub rule : SlotRule (system t) (stateAt w) (parentAt w) (maskAt w) 0 k
-  pub stored : Stored (system t) (stateAt w) k
+pub record Overfull (t : Table) (K : ℕ) (ends w : List ℕ) : Type 0 where
+  pub verdict : (trace : List ℕ) → Verdict (system t) K (NoRoom K) trace
+  pub rule : SlotRule (system t) (stateIn w) (parentIn K ends w) (maskAt (columns K) w) 0 K
+  pub stored : Stored (system t) (stateIn w) K
 
--- slot i of a level under its masks, from the pairs T tried to U, whichever the level
-abbrev pub Carries : Table → List ℕ → List ℕ → ℕ → ℕ → ℕ → (ℕ → ℕ → Type 0) → (ℕ → ℕ → Type 0) → Type 0
-Carries t w w′ n n′ i T U = (lo hi d : ℕ) → lo ≤ i → i < hi → FillingIn t w lo hi n d T → FillingIn t w′ lo hi n′ d U
+-- slot i of a level under its masks, from the pairs T tried to U, whichever the level and the ends of the blocks before
+abbrev pub Carries : Table → ℕ → List ℕ → List ℕ → ℕ → ℕ → ℕ → (ℕ → ℕ → Type 0) → (ℕ → ℕ → Type 0) → Type 0
+Carries t K w w′ n n′ i T U =
+    (ends : List ℕ) → Marked ends i n → (lo hi d : ℕ) → lo ≤ i → i < hi → FillingIn t K ends w lo hi n d T → FillingIn t K ends w′ lo hi n′ d U
 
 -- what a row asks: n slots, slot i among them with a proper state
-pub record RowReady (t : Table) (w heads : List ℕ) (k n i : ℕ) : Type 0 where
+pub record RowReady (t : Table) (K : ℕ) (w heads : List ℕ) (n i : ℕ) : Type 0 where
   pub valid : tableFault t ≡ 0
-  pub room : Room w heads n k
+  pub indexed : Indexed K w heads n
   pub below : i < n
-  pub proper : improper t (stateAt w i) ≡ false
+  pub proper : improper t (stateIn w i) ≡ false
 
 -- the row is done, or there was no room
-pub record RowDone (t : Table) (w w′ heads′ : List ℕ) (k n n′ i : ℕ) : Type 0 where
-  pub kept : Kept w w′ n n′
-  pub room : Room w′ heads′ n′ k
-  pub carries : Carries t w w′ n n′ i (Before i) (Before (suc i))
+pub record RowDone (t : Table) (K : ℕ) (w w′ heads′ : List ℕ) (n n′ i : ℕ) : Type 0 where
+  pub kept : Kept K w w′ n n′
+  pub indexed : Indexed K w′ heads′ n′
+  pub carries : Carries t K w w′ n n′ i (Before i) (Before (suc i))
 
-pub record RowFull (t : Table) (w w′ : List ℕ) (k n i : ℕ) : Type 0 where
+pub record RowFull (t : Table) (K : ℕ) (w w′ : List ℕ) (n i : ℕ) : Type 0 where
   pub len : length w′ ≡ length w
-  pub later : drop (24 * k) w′ ≡ drop (24 * k) w
-  pub overfull : (lo hi d : ℕ) → lo ≤ i → i < hi → FillingIn t w lo hi n d (Before i) → Overfull t w′ k
+  pub rest : Stays (columns K) K w w′
+  pub overfull : (ends : List ℕ) → Marked ends i n → (lo hi d : ℕ) → lo ≤ i → i < hi → FillingIn t K ends w lo hi n d (Before i) → Overfull t K ends w′
 
-abbrev pub RowIs : Table → List ℕ → List ℕ → List ℕ → ℕ → ℕ → ℕ → Filled → Type 0
-RowIs t w w′ heads′ k n i (Filled.Upto n′) = RowDone t w w′ heads′ k n n′ i
-RowIs t w w′ heads′ k n i Filled.Full = RowFull t w w′ k n i
+abbrev pub RowIs : Table → ℕ → List ℕ → List ℕ → List ℕ → ℕ → ℕ → Filled → Type 0
+RowIs t K w w′ heads′ n i (Filled.Upto n′) = RowDone t K w w′ heads′ n n′ i
+RowIs t K w w′ heads′ n i Filled.Full = RowFull t K w w′ n i
 
--- the level is done, or there was no room
-pub record LevelDone (t : Table) (w w′ heads′ : List ℕ) (k lo hi n : ℕ) : Type 0 where
-  pub kept : Kept w w′ hi n
-  pub room : Room w′ heads′ n k
-  pub filled : (d : ℕ) → FillingIn t w lo hi hi d (Before lo) → FillingIn t w′ lo hi n d (Before hi)
+-- the level is done, or there was no room; ends′ are the ends then
+pub record LevelDone (t : Table) (K : ℕ) (ends ends′ w w′ heads′ : List ℕ) (lo hi n : ℕ) : Type 0 where
+  pub kept : Kept K w w′ hi n
+  pub indexed : Indexed K w′ heads′ n
+  pub marked : Marked ends′ hi n
+  pub filled : (d : ℕ) → FillingIn t K ends w lo hi hi d (Before lo) → FillingIn t K ends′ w′ lo hi n d (Before hi)
 
-pub record LevelFull (t : Table) (w w′ : List ℕ) (k lo hi : ℕ) : Type 0 where
+pub record LevelFull (t : Table) (K : ℕ) (ends ends′ w w′ : List ℕ) (lo hi : ℕ) : Type 0 where
   pub len : length w′ ≡ length w
-  pub later : drop (24 * k) w′ ≡ drop (24 * k) w
-  pub overfull : (d : ℕ) → FillingIn t w lo hi hi d (Before lo) → Overfull t w′ k
+  pub rest : Stays (columns K) K w w′
+  pub last : getD ends′ 244 0 ≡ 1000000
+  pub overfull : (d : ℕ) → FillingIn t K ends w lo hi hi d (Before lo) → Overfull t K ends′ w′
 
-abbrev pub LevelIs : Table → List ℕ → List ℕ → List ℕ → ℕ → ℕ → ℕ → Filled → Type 0
-LevelIs t w w′ heads′ k lo hi (Filled.Upto n) = LevelDone t w w′ heads′ k lo hi n
-LevelIs t w w′ heads′ k lo hi Filled.Full = LevelFull t w w′ k lo hi
+abbrev pub LevelIs : Table → ℕ → List ℕ → List ℕ → List ℕ → List ℕ → List ℕ → ℕ → ℕ → Filled → Type 0
+LevelIs t K ends ends′ w w′ heads′ lo hi (Filled.Upto n) = LevelDone t K ends ends′ w w′ heads′ lo hi n
+LevelIs t K ends ends′ w w′ heads′ lo hi Filled.Full = LevelFull t K ends ends′ w w′ lo hi
 
--- ---- the trace
+-- ---- the levels
 
--- slot i's way through d parents stays among slots that the work space has
-pub record TraceReady (w trace : List ℕ) (i d : ℕ) : Type 0 where
+-- a valid table, and no slot of K filled yet
+pub record Fresh (t : Table) (K : ℕ) (ends w heads : List ℕ) : Type 0 where
+  pub valid : tableFault t ≡ 0
+  pub some : 1 ≤ K
+  pub few : K ≤ 1000000
+  pub fits : 21 * K ≤ length w
+  pub buckets : 0 < length heads
+  pub empty : (b : ℕ) → getD heads b 0 ≡ 0
+  pub marked : Marked ends 0 0
+
+-- a verdict found with these masks: what Claim.antt's `Searched` says of it, in the layout while the search runs
+pub record Ran (t : Table) (K : ℕ) (ends w w′ : List ℕ) (a : Answer) (masks : List ℕ) : Type 0 where
+  pub some : 1 ≤ countOf a
+  pub most : countOf a ≤ K
+  pub last : getD ends 244 0 ≡ 1000000
+  pub verdict : Verdict (system t) K a masks
+  pub rule : SlotRule (system t) (stateIn w′) (parentIn K ends w′) (maskAt (columns K) w′) 0 (countOf a)
+  pub stored : Stored (system t) (stateIn w′) (countOf a)
+  pub complete : Complete (system t) (stateIn w′) a
+  pub rest : Stays (columns K) (countOf a) w w′
+
+-- mask m misses from slot i, to which d masks lead, and n slots are filled
+pub record RanMissed (t : Table) (K : ℕ) (ends w w′ : List ℕ) (i m d n : ℕ) : Type 0 where
+  pub below : i < n
+  pub deep : d < n
+  pub low : (j : ℕ) → j < n → parentIn K ends w′ j < n
+  pub ran : Ran t K ends w w′ (Unsafe (suc d) n) (trail (parentIn K ends w′) (maskAt (columns K) w′) d i ++ m ∷ [])
+
+abbrev pub RanIs : Table → ℕ → List ℕ → List ℕ → List ℕ → End → Type 0
+RanIs t K ends w w′ (End.Missed i m d n) = RanMissed t K ends w w′ i m d n
+RanIs t K ends w w′ (End.Closed n) = Ran t K ends w w′ (Safe n) []
+RanIs t K ends w w′ End.Full = Ran t K ends w w′ (NoRoom K) []
+
+pub record RanBy (t : Table) (K : ℕ) (ends w w′ : List ℕ) (end : End) : Type 0 where
+  pub is : RanIs t K ends w w′ end
+
+-- how many slots are written then
+abbrev pub writtenBy : ℕ → End → ℕ
+writtenBy K (End.Missed i m d n) = n
+writtenBy K (End.Closed n) = n
+writtenBy K End.Full = K
+
+-- ---- the trace and the answer, once the columns are as the paper has them
+
+-- slot i's way through d parents stays among n of the K slots that the work space has
+pub record TraceReady (K : ℕ) (w trace : List ℕ) (i d : ℕ) : Type 0 where
   pub n : ℕ
   pub below : i < n
-  pub fits : 24 * n ≤ length w
-  pub low : (j : ℕ) → j < n → parentAt w j < n
+  pub most : n ≤ K
+  pub fits : 21 * K ≤ length w
+  pub low : (j : ℕ) → j < n → parentAt (columns K) w j < n
   pub long : d < length trace
 
 -- the trace space with the masks to slot i and then m
-unfoldable pub traced : List ℕ → List ℕ → ℕ → ℕ → ℕ → List ℕ
-traced w trace i d m = trail (parentAt w) (maskAt w) d i ++ m ∷ drop (d + 1) trace
+unfoldable pub traced : ℕ → List ℕ → List ℕ → ℕ → ℕ → ℕ → List ℕ
+traced K w trace i d m = trail (parentAt (columns K) w) (maskAt (columns K) w) d i ++ m ∷ drop (d + 1) trace
+
+abbrev pub ReportReady : ℕ → List ℕ → List ℕ → End → Type 0
+ReportReady K w trace (End.Missed i m d n) = TraceReady K w trace i d
+ReportReady K w trace (End.Closed n) = Unit {0}
+ReportReady K w trace End.Full = Unit {0}
+
+-- the answer, and the trace space after it
+abbrev pub ReportIs : ℕ → List ℕ → List ℕ → List ℕ → End → SearchAnswer → Type 0
+ReportIs K w trace trace′ (End.Missed i m d n) r = (r ≡ SearchAnswer.Unsafe (suc d) n) × (trace′ ≡ traced K w trace i d m)
+ReportIs K w trace trace′ (End.Closed n) r = (r ≡ SearchAnswer.Safe n) × (trace′ ≡ trace)
+ReportIs K w trace trace′ End.Full r = (r ≡ SearchAnswer.NoRoom K) × (trace′ ≡ trace)
 
 -- ---- the whole search
 
--- a valid table, and k slots in spaces that will do
-pub record Lent (t : Table) (w trace : List ℕ) (k : ℕ) : Type 0 where
+-- a valid table, and K slots in spaces that will do
+pub record Lent (t : Table) (w trace : List ℕ) (K : ℕ) : Type 0 where
   pub valid : tableFault t ≡ 0
-  pub is : k ≡ slotsIn w
-  pub some : 1 ≤ k
-  pub long : k ≤ length trace
+  pub is : K ≡ slotsIn w
+  pub some : 1 ≤ K
+  pub long : K ≤ length trace
 
--- .. and heads of no chain yet
-pub record Spaces (t : Table) (w trace heads : List ℕ) (k : ℕ) : Type 0 where
-  pub valid : tableFault t ≡ 0
-  pub some : 1 ≤ k
-  pub few : k ≤ 1000000
-  pub fits : 24 * k ≤ length w
-  pub long : k ≤ length trace
+-- heads of no chain yet
+pub record NoHeads (heads : List ℕ) : Type 0 where
   pub buckets : 0 < length heads
   pub empty : (b : ℕ) → getD heads b 0 ≡ 0
-
--- a verdict found: what Claim.antt's `Searched` says, but that links may still stand in the slots
-pub record Ran (t : Table) (w w′ trace trace′ : List ℕ) (k : ℕ) (a : Answer) : Type 0 where
-  pub some : 1 ≤ countOf a
-  pub most : countOf a ≤ k
-  pub verdict : Verdict (system t) k a (take (masksOf a) trace′)
-  pub rule : SlotRule (system t) (stateAt w′) (parentAt w′) (maskAt w′) 0 (countOf a)
-  pub stored : Stored (system t) (stateAt w′) (countOf a)
-  pub complete : Complete (system t) (stateAt w′) a
-  pub later : drop (24 * countOf a) w′ ≡ drop (24 * countOf a) w
-  pub rest : drop (masksOf a) trace′ ≡ drop (masksOf a) trace
-
--- the code's answer for each verdict
-abbrev pub answerOf : Answer → SearchAnswer
-answerOf (Unsafe l n) = SearchAnswer.Unsafe l n
-answerOf (Safe n) = SearchAnswer.Safe n
-answerOf (NoRoom n) = SearchAnswer.NoRoom n
-
-pub record RanBy (t : Table) (w w′ trace trace′ : List ℕ) (k : ℕ) (r : SearchAnswer) : Type 0 where
-  pub answer : Answer
-  pub is : r ≡ answerOf answer
-  pub ran : Ran t w w′ trace trace′ k answer

@@ -4,9 +4,9 @@ ghost use Prim.Native.Nat.{_≤_};
 ghost use Rattle.tasks.specs.Ticker.{tickerOf};
 ghost use Rattle.states.specs.Miss.{missBy};
 ghost use Rattle.search.specs.Keeping.{Level, HuntIs};
-use crate::slots::words_at;
 use states::follow;
 use states::full_misses;
+use states::words_in;
 use tasks::Table;
 use tasks::Ticker;
 use tasks::misses;
@@ -38,7 +38,7 @@ pub(crate) fn hunt(t: Table, ticker: Ticker, work: &[u8], lo: usize, hi: usize) 
         if i == hi {
             break 'hunt HuntAnswer::Clear;
         }
-        let v = words_at(work, i);
+        let v = words_in(work, i);
         if has_miss(t, ticker, v) {
             let free = ticker.free(v);
             let state = ticker.prepare(v);

@@ -1,13 +1,12 @@
 // The search level by level: a level is hunted for a miss before any of its successors is stored.
 ghost use mathlib.Core.Path.{_≡_};
 ghost use Rattle.tasks.specs.Ticker.{tickerOf};
-ghost use Rattle.search.specs.Keeping.{Spaces, RanBy};
+ghost use Rattle.search.specs.Keeping.{Fresh, RanBy};
 use crate::hunt::HuntAnswer;
 use crate::hunt::hunt;
 use crate::index::push;
 use crate::store::Filled;
 use crate::store::store_level;
-use crate::trace::write_trace;
 use tasks::Table;
 use tasks::Ticker;
 
@@ -19,20 +18,28 @@ pub enum SearchAnswer {
     Refused(u8),
 }
 
-// Searches the states of a valid table, with k slots. The links stay in the slots.
+// How the levels end: with a slot, a mask that misses from it, the number of masks that lead to it and that of slots filled;
+// with all states in that many slots; or with every slot filled, and a state more.
+pub(crate) enum End {
+    Missed(usize, u8, usize, usize),
+    Closed(usize),
+    Full,
+}
+
+// Searches the states of a valid table, with k slots. The words stay in the place of the parents.
 pub(crate) fn run_levels(
     t: Table,
     ticker: Ticker,
     work: &mut [u8],
-    trace: &mut [u8],
     heads: &mut [u32],
+    ends: &mut [u32],
     k: usize,
-) -> SearchAnswer
-    requires { ⌜ (ticker ≡ tickerOf t) × Spaces t (now work) (now trace) (now heads) k ⌝ }
-    ensures { λ r. ⌜ RanBy t (now (work .entry)) (now (work .exit)) (now (trace .entry)) (now (trace .exit)) k r ⌝ }
+) -> End
+    requires { ⌜ (ticker ≡ tickerOf t) × Fresh t k (now ends) (now work) (now heads) ⌝ }
+    ensures { λ r. ⌜ RanBy t k (now (ends .exit)) (now (work .entry)) (now (work .exit)) r ⌝ }
 {
     let start = [0u16; 8];
-    push(work, heads, 0, start, 0, 0);
+    push(work, heads, k, 0, start, 0, 0);
     let mut lo: usize = 0;
     let mut hi: usize = 1;
     let mut d: usize = 0;
@@ -40,19 +47,18 @@ pub(crate) fn run_levels(
         let found = hunt(t, ticker, work, lo, hi);
         match found {
             HuntAnswer::Miss(i, m) => {
-                write_trace(work, trace, i, d, m);
-                return SearchAnswer::Unsafe(d + 1, hi);
+                return End::Missed(i, m, d, hi);
             }
             HuntAnswer::Clear => {}
         }
-        let filled = store_level(t, ticker, work, heads, k, lo, hi);
+        let filled = store_level(t, ticker, work, heads, ends, k, lo, hi);
         match filled {
             Filled::Full => {
-                return SearchAnswer::NoRoom(k);
+                return End::Full;
             }
             Filled::Upto(n) => {
                 if n == hi {
-                    return SearchAnswer::Safe(hi);
+                    return End::Closed(hi);
                 }
                 lo = hi;
                 hi = n;

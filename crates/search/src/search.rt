@@ -2,35 +2,37 @@
 ghost use mathlib.Core.Path.{_≡_};
 ghost use Prim.Native.Nat.{_/_, min};
 ghost use Rattle.tasks.specs.Table.{tableFault};
+ghost use Rattle.slots.specs.Layout.{columns};
 ghost use Rattle.search.specs.Claim.{slotsIn, spacesRefusal, figures, Found, Search, TableSearch, SheetSearch};
-ghost use Rattle.search.specs.Keeping.{Lent, Spaces};
+ghost use Rattle.search.specs.Keeping.{writtenBy, Lent, NoHeads};
+use crate::outcome::report;
+use crate::run::End;
 use crate::run::SearchAnswer;
 use crate::run::run_levels;
-use crate::slots::clear_links;
+use slots::settle;
 use tasks::Reading;
 use tasks::Table;
 
 // How many slots a work space of this length has, at most 1,000,000.
 fn slots_in(length: usize) -> usize
-    ensures { λ r. ⌜ r ≡ min (length / 24) 1000000 ⌝ }
+    ensures { λ r. ⌜ r ≡ min (length / 21) 1000000 ⌝ }
 {
-    let k = length / 24;
+    let k = length / 21;
     if 1000000 < k { 1000000 } else { k }
 }
 
-// The count that an answer reports, or the refusal's number.
-fn count_of(a: SearchAnswer) -> usize
-    ensures { λ r. ⌜ r ≡ figures a .N ⌝ }
+// How many of k slots are written where the levels ended so.
+fn written(k: usize, end: End) -> usize
+    ensures { λ r. ⌜ r ≡ writtenBy k end ⌝ }
 {
-    match a {
-        SearchAnswer::Safe(n) => n,
-        SearchAnswer::Unsafe(_, n) => n,
-        SearchAnswer::NoRoom(n) => n,
-        SearchAnswer::Refused(r) => r as usize,
+    match end {
+        End::Missed(_, _, _, n) => n,
+        End::Closed(n) => n,
+        End::Full => k,
     }
 }
 
-// Searches with the heads given, and clears the links that the slots held meanwhile.
+// Searches with the heads given, writes the parents in the place of the words, and reports.
 fn search_with(
     t: Table,
     work: &mut [u8],
@@ -38,20 +40,21 @@ fn search_with(
     heads: &mut [u32],
     k: usize,
 ) -> SearchAnswer
-    requires { ⌜ Spaces t (now work) (now trace) (now heads) k × (k ≡ slotsIn (now work)) ⌝ }
-    ensures { λ r. ⌜ Found t (now (work .entry)) (now (work .exit)) (now (trace .entry)) (now (trace .exit)) (figures r) ⌝ }
+    requires { ⌜ Lent t (now work) (now trace) k × NoHeads (now heads) ⌝ }
+    ensures { λ r. ⌜ Found (columns k) k t (now (work .entry)) (now (work .exit)) (now (trace .entry)) (now (trace .exit)) (figures r) ⌝ }
 {
     let ticker = t.ticker();
-    let a = run_levels(t, ticker, work, trace, heads, k);
-    let n = count_of(a);
-    clear_links(work, n);
-    a
+    let mut ends = [1000000u32; 245];
+    let end = run_levels(t, ticker, work, heads, &mut ends, k);
+    let n = written(k, end);
+    settle(work, &ends, k, n);
+    report(work, trace, k, end)
 }
 
 // Up to 16,384 slots: 16 KB of heads on the stack.
 fn search_small(t: Table, work: &mut [u8], trace: &mut [u8], k: usize) -> SearchAnswer
     requires { ⌜ Lent t (now work) (now trace) k ⌝ }
-    ensures { λ r. ⌜ Found t (now (work .entry)) (now (work .exit)) (now (trace .entry)) (now (trace .exit)) (figures r) ⌝ }
+    ensures { λ r. ⌜ Found (columns k) k t (now (work .entry)) (now (work .exit)) (now (trace .entry)) (now (trace .exit)) (figures r) ⌝ }
 {
     let mut heads = [0u32; 4096];
     search_with(t, work, trace, &mut heads, k)
@@ -60,7 +63,7 @@ fn search_small(t: Table, work: &mut [u8], trace: &mut [u8], k: usize) -> Search
 // Up to 262,144 slots: 256 KB of heads.
 fn search_medium(t: Table, work: &mut [u8], trace: &mut [u8], k: usize) -> SearchAnswer
     requires { ⌜ Lent t (now work) (now trace) k ⌝ }
-    ensures { λ r. ⌜ Found t (now (work .entry)) (now (work .exit)) (now (trace .entry)) (now (trace .exit)) (figures r) ⌝ }
+    ensures { λ r. ⌜ Found (columns k) k t (now (work .entry)) (now (work .exit)) (now (trace .entry)) (now (trace .exit)) (figures r) ⌝ }
 {
     let mut heads = [0u32; 65536];
     search_with(t, work, trace, &mut heads, k)
@@ -69,7 +72,7 @@ fn search_medium(t: Table, work: &mut [u8], trace: &mut [u8], k: usize) -> Searc
 // Up to 1,000,000 slots: 1 MB of heads.
 fn search_large(t: Table, work: &mut [u8], trace: &mut [u8], k: usize) -> SearchAnswer
     requires { ⌜ Lent t (now work) (now trace) k ⌝ }
-    ensures { λ r. ⌜ Found t (now (work .entry)) (now (work .exit)) (now (trace .entry)) (now (trace .exit)) (figures r) ⌝ }
+    ensures { λ r. ⌜ Found (columns k) k t (now (work .entry)) (now (work .exit)) (now (trace .entry)) (now (trace .exit)) (figures r) ⌝ }
 {
     let mut heads = [0u32; 262144];
     search_with(t, work, trace, &mut heads, k)
@@ -79,7 +82,7 @@ fn search_large(t: Table, work: &mut [u8], trace: &mut [u8], k: usize) -> Search
 // then keeps each size's heads in a frame of their own, so that a small work space does not pay a large one's stack.
 fn search_sized(t: Table, work: &mut [u8], trace: &mut [u8], k: usize, step: usize) -> SearchAnswer
     requires { ⌜ Lent t (now work) (now trace) k ⌝ }
-    ensures { λ r. ⌜ Found t (now (work .entry)) (now (work .exit)) (now (trace .entry)) (now (trace .exit)) (figures r) ⌝ }
+    ensures { λ r. ⌜ Found (columns k) k t (now (work .entry)) (now (work .exit)) (now (trace .entry)) (now (trace .exit)) (figures r) ⌝ }
 {
     if 1 < step {
         return search_large(t, work, trace, k);
@@ -99,7 +102,7 @@ fn search_sized(t: Table, work: &mut [u8], trace: &mut [u8], k: usize, step: usi
 // The search of a valid table.
 fn search_valid(t: Table, work: &mut [u8], trace: &mut [u8]) -> SearchAnswer
     requires { ⌜ tableFault t ≡ 0 ⌝ }
-    ensures { λ r. ⌜ Search (spacesRefusal (now (work .entry)) (now (trace .entry))) t (now (work .entry)) (now (work .exit)) (now (trace .entry)) (now (trace .exit)) (figures r) ⌝ }
+    ensures { λ r. ⌜ Search (columns (slotsIn (now (work .entry)))) (slotsIn (now (work .entry))) (spacesRefusal (slotsIn (now (work .entry))) (now (trace .entry))) t (now (work .entry)) (now (work .exit)) (now (trace .entry)) (now (trace .exit)) (figures r) ⌝ }
 {
     let k = slots_in(work.len());
     if k == 0 {

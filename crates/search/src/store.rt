@@ -3,11 +3,14 @@ ghost use mathlib.Core.Path.{_≡_};
 ghost use Prim.Native.Nat.{_≤_, _<_};
 ghost use Rattle.tasks.specs.Words.{stateOf};
 ghost use Rattle.tasks.specs.Ticker.{tickerOf, tickedBy};
-ghost use Rattle.search.specs.Keeping.{Room, Level, Attempted, RowReady, RowIs, LevelIs};
+ghost use Rattle.slots.specs.Running.{Marked};
+ghost use Rattle.search.specs.Indexed.{Indexed};
+ghost use Rattle.search.specs.Keeping.{Level, Attempted, RowReady, RowIs, LevelIs};
 use crate::index::holds;
 use crate::index::push;
-use crate::slots::words_at;
+use slots::end_row;
 use states::follow;
+use states::words_in;
 use tasks::Prepared;
 use tasks::Table;
 use tasks::Ticker;
@@ -31,22 +34,22 @@ fn try_mask(
     work: &mut [u8],
     heads: &mut [u32],
     state: Prepared,
-    n: usize,
     k: usize,
+    n: usize,
     i: usize,
     mask: u8,
 ) -> Attempt
-    requires { ⌜ Room (now work) (now heads) n k × (i < n) ⌝ }
-    ensures { λ r. ⌜ Attempted (now (work .entry)) (now (work .exit)) (now (heads .entry)) (now (heads .exit)) n k (stateOf (tickedBy ticker state mask)) i mask r ⌝ }
+    requires { ⌜ Indexed k (now work) (now heads) n ⌝ }
+    ensures { λ r. ⌜ Attempted k (now (work .entry)) (now (work .exit)) (now (heads .entry)) (now (heads .exit)) n (stateOf (tickedBy ticker state mask)) i mask r ⌝ }
 {
     let next = ticker.after(state, mask);
-    if holds(work, heads, n, next) {
+    if holds(work, heads, k, n, next) {
         return Attempt::Nothing;
     }
     if n == k {
         return Attempt::Full;
     }
-    push(work, heads, n, next, i as u32, mask);
+    push(work, heads, k, n, next, i, mask);
     Attempt::New
 }
 
@@ -60,17 +63,17 @@ fn store_row(
     from: usize,
     i: usize,
 ) -> Filled
-    requires { ⌜ (ticker ≡ tickerOf t) × RowReady t (now work) (now heads) k from i ⌝ }
-    ensures { λ r. ⌜ RowIs t (now (work .entry)) (now (work .exit)) (now (heads .exit)) k from i r ⌝ }
+    requires { ⌜ (ticker ≡ tickerOf t) × RowReady t k (now work) (now heads) from i ⌝ }
+    ensures { λ r. ⌜ RowIs t k (now (work .entry)) (now (work .exit)) (now (heads .exit)) from i r ⌝ }
 {
-    let v = words_at(work, i);
+    let v = words_in(work, i);
     let free = ticker.free(v);
     let state = ticker.prepare(v);
     let mut n = from;
     let mut m: u16 = 0;
     while m < 256 {
         let mask = m as u8;
-        let a = try_mask(ticker, work, heads, state, n, k, i, mask);
+        let a = try_mask(ticker, work, heads, state, k, n, i, mask);
         match a {
             Attempt::Nothing => {}
             Attempt::New => {
@@ -91,12 +94,13 @@ pub(crate) fn store_level(
     ticker: Ticker,
     work: &mut [u8],
     heads: &mut [u32],
+    ends: &mut [u32],
     k: usize,
     lo: usize,
     hi: usize,
 ) -> Filled
-    requires { ⌜ (ticker ≡ tickerOf t) × (lo ≤ hi) × Level t (now work) hi × Room (now work) (now heads) hi k ⌝ }
-    ensures { λ r. ⌜ LevelIs t (now (work .entry)) (now (work .exit)) (now (heads .exit)) k lo hi r ⌝ }
+    requires { ⌜ (ticker ≡ tickerOf t) × (lo ≤ hi) × Level t (now work) hi × Indexed k (now work) (now heads) hi × Marked (now ends) lo hi ⌝ }
+    ensures { λ r. ⌜ LevelIs t k (now (ends .entry)) (now (ends .exit)) (now (work .entry)) (now (work .exit)) (now (heads .exit)) lo hi r ⌝ }
 {
     let mut n = hi;
     let mut i = lo;
@@ -110,6 +114,7 @@ pub(crate) fn store_level(
                 return Filled::Full;
             }
         }
+        end_row(ends, i, n);
         i += 1;
     }
     Filled::Upto(n)

@@ -17,6 +17,10 @@ fourAt w a = four (getD w a 0) (getD w (a + 1) 0) (getD w (a + 2) 0) (getD w (a 
 abbrev pub stateFrom : List ℕ → ℕ → State
 stateFrom w a = record { c = eight (λ k. getD w (a + 2 * k) 0); p = eight (λ k. getD w (a + 2 * k + 1) 0) }
 
+-- state i of those that stand one after the other from the front on: of a file (document 02, §1), and of a work space, whose first column has the states (§6)
+unfoldable pub stateIn : List ℕ → ℕ → State
+stateIn w i = stateFrom w (16 * i)
+
 -- f 0, g 0, f 1, g 1, .. : k of each
 abbrev pub twos : ℕ → (ℕ → ℕ) → (ℕ → ℕ) → List ℕ
 twos zero f g = []

@@ -19,6 +19,10 @@ keyOf s = record { a = wordOf s 0; b = wordOf s 1; c = wordOf s 2; d = wordOf s 
 abbrev pub keyFrom : List ℕ → ℕ → Key
 keyFrom w a = record { a = fourAt w a; b = fourAt w (a + 4); c = fourAt w (a + 8); d = fourAt w (a + 12) }
 
+-- the key of state i of those that stand one after the other
+unfoldable pub keyIn : List ℕ → ℕ → Key
+keyIn w i = keyFrom w (16 * i)
+
 unfoldable pub sameKeys : Key → Key → Bool
 sameKeys k l = ((eqb (k .a) (l .a) && eqb (k .b) (l .b)) && eqb (k .c) (l .c)) && eqb (k .d) (l .d)
 

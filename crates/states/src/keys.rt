@@ -13,7 +13,7 @@ pub struct Key {
 }
 
 // The number of four bytes, low byte first.
-pub fn joined(x: u8, y: u8, z: u8, u: u8) -> u32
+pub(crate) fn joined(x: u8, y: u8, z: u8, u: u8) -> u32
     ensures { λ r. ⌜ r ≡ four x y z u ⌝ }
 {
     (x as u32) + 256 * (y as u32) + 65536 * (z as u32) + 16777216 * (u as u32)

@@ -13,7 +13,7 @@ fn two(x: u8, y: u8) -> u16
 }
 
 // The words of the state in the sixteen bytes from `at` on, which must be there. In this form the compiler reads them as one vector.
-pub fn words_from(bytes: &[u8], at: usize) -> [u16; 8]
+pub(crate) fn words_from(bytes: &[u8], at: usize) -> [u16; 8]
     requires { ⌜ at + 16 ≤ length (now bytes) ⌝ }
     ensures { λ r. ⌜ stateOf r ≡ stateFrom (now (bytes .entry)) at ⌝ }
 {

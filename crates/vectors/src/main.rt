@@ -1,10 +1,10 @@
 // Runs outside vectors over the library: reads records from standard input and prints a line for each.
 // A record is a kind, the length of its body in two bytes, low byte first, and the body;
 // tests/make_vectors.py makes the records and the lines expected, and says what each kind holds.
+mod columns;
 mod files;
 mod number;
 mod sheet;
-mod slots;
 mod space;
 mod table;
 mod text;
@@ -24,12 +24,12 @@ fn answer(kind: u8, body: &[u8]) {
         b'r' => writer::round(body),
         b'k' => tick::tick(body),
         b'p' => tick::replay(body),
-        b'v' => verdicts::search(body),
-        b'q' => verdicts::call(body),
+        b'v' => verdicts::lend(kind, body),
+        b'q' => verdicts::lend(kind, body),
+        b'l' => verdicts::lend(kind, body),
+        b'e' => verdicts::lend(kind, body),
         b'c' => files::judge(body),
         b'f' => files::judge_table(body),
-        b'o' => files::copy(body),
-        b'e' => files::keep(body),
         b'u' => totals::account(body),
         b'z' => totals::call(body),
         _ => text::unknown(),

@@ -12,18 +12,18 @@ pub fn fill(space: &mut [u8], first: u8, step: u8) {
     }
 }
 
-// Whether the byte at a place is another than it was, and counts.
-fn counts(from: usize, at: usize, byte: u8, before: u8) -> bool {
-    from <= at && byte != before
+// Whether a place is within a part, and its byte another than it was.
+fn counts(from: usize, to: usize, at: usize, byte: u8, before: u8) -> bool {
+    from <= at && at < to && byte != before
 }
 
-// How many bytes from a place on are not what `fill` put there.
-pub fn changed(space: &[u8], from: usize, first: u8, step: u8) -> usize {
+// How many bytes from one place up to another are not what `fill` put there.
+pub fn changed(space: &[u8], from: usize, to: usize, first: u8, step: u8) -> usize {
     let mut count: usize = 0;
     let mut x = first;
     let mut i: usize = 0;
     while i < space.len() {
-        count += text::one(counts(from, i, space[i], x));
+        count += text::one(counts(from, to, i, space[i], x));
         x = std::num::wrapping_add_u8(x, step);
         i += 1;
     }

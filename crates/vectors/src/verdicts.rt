@@ -1,5 +1,6 @@
 // Searches: the spaces that they are lent, their answers, and the bytes that they leave.
-use crate::slots;
+use crate::columns;
+use crate::files;
 use crate::space;
 use crate::text;
 use crate::tick;
@@ -9,29 +10,37 @@ use tasks::Table;
 // What each byte of a space is more than the one before it, modulo 256.
 const STEP: u8 = 29;
 
-// Prints how many bytes changed in the work space after its first n slots, and in the trace space after
+// Prints how many bytes changed of those that the first n slots do not have: of the states, of the parents,
+// of the masks, and after the masks. Nothing where there are fewer slots.
+fn print_later(work: &[u8], n: usize, fill: u8) {
+    let k = work.len() / 21;
+    text::put(b" later");
+    if n <= k {
+        text::number(space::changed(work, 16 * n, 16 * k, fill, STEP));
+        text::number(space::changed(work, 16 * k + 4 * n, 20 * k, fill, STEP));
+        text::number(space::changed(work, 20 * k + n, 21 * k, fill, STEP));
+        text::number(space::changed(work, 21 * k, work.len(), fill, STEP));
+    }
+}
+
+// Prints how many bytes changed in the work space besides its first n slots, and in the trace space after
 // its first l masks.
 fn print_changed(work: &[u8], n: usize, trace: &[u8], l: usize, fill: u8) {
-    let written = slots::first(work, n);
-    text::put(b" later");
-    text::number(space::changed(work, written.len(), fill, STEP));
+    print_later(work, n, fill);
     text::put(b" trace");
-    text::number(space::changed(trace, l, fill, STEP));
+    text::number(space::changed(trace, l, trace.len(), fill, STEP));
 }
 
 // Prints how many of the first n slots are not as a slot has to be.
 fn print_slots(t: Table, work: &[u8], n: usize) {
-    let written = slots::first(work, n);
-    text::put(b" spare");
-    text::number(slots::spare_used(written));
     text::put(b" wrong");
-    text::number(slots::wrong(t, written));
+    text::number(columns::wrong(t, work, n));
 }
 
 // Prints the digest of the states in the first n slots.
 fn print_digest(work: &[u8], n: usize) {
     text::put(b" digest");
-    text::number(slots::digest(slots::first(work, n)));
+    text::number(columns::digest(columns::states(work, n)));
 }
 
 // Prints what replaying the first l masks answers.
@@ -83,31 +92,66 @@ fn search_with(sheet: &[u8], work: &mut [u8], trace: &mut [u8], fill: u8) {
     text::end();
 }
 
-// Calls as a C program does, and prints the line.
-fn call_with(sheet: &[u8], work: &mut [u8], trace: &mut [u8]) {
-    let number = ronchhek::ronchhek_verdict(sheet, work, trace);
-    text::put(b"call");
-    text::long(number);
+// How many slots a search wrote.
+fn count_of(answer: SearchAnswer) -> usize {
+    match answer {
+        SearchAnswer::Safe(n) => n,
+        SearchAnswer::Unsafe(_, n) => n,
+        SearchAnswer::NoRoom(k) => k,
+        SearchAnswer::Refused(_) => 0,
+    }
+}
+
+// Searches a sheet's table, judges the states that the search wrote as a file, where they stand, and prints
+// the line.
+fn judge_with(sheet: &[u8], work: &mut [u8], trace: &mut [u8]) {
+    let answer = search::search_sheet(sheet, work, trace);
+    let file = columns::states(work, count_of(answer));
+    text::put(b"evidence");
+    text::number(file.len());
+    files::print_judged(sheet, file);
     text::end();
 }
 
-// Fills both spaces, and searches or calls with them.
-fn run(is_call: bool, sheet: &[u8], work: &mut [u8], trace: &mut [u8], fill: u8) {
+// Calls as a C program does, and prints the number.
+fn print_call(sheet: &[u8], work: &mut [u8], trace: &mut [u8]) {
+    let number = ronchhek::ronchhek_verdict(sheet, work, trace);
+    text::long(number);
+}
+
+// Calls as a C program does, and prints the line.
+fn call_with(sheet: &[u8], work: &mut [u8], trace: &mut [u8]) {
+    text::put(b"call");
+    print_call(sheet, work, trace);
+    text::end();
+}
+
+// Calls as a C program does, and prints the line, with the whole work space.
+fn layout_with(sheet: &[u8], work: &mut [u8], trace: &mut [u8]) {
+    text::put(b"layout");
+    print_call(sheet, work, trace);
+    text::output(work);
+    text::end();
+}
+
+// Fills both spaces, and does with them what the kind of the record says.
+fn run(kind: u8, sheet: &[u8], work: &mut [u8], trace: &mut [u8], fill: u8) {
     space::fill(work, fill, STEP);
     space::fill(trace, fill, STEP);
-    if is_call {
-        call_with(sheet, work, trace);
-    } else {
-        search_with(sheet, work, trace, fill);
+    match kind {
+        b'q' => call_with(sheet, work, trace),
+        b'l' => layout_with(sheet, work, trace),
+        b'e' => judge_with(sheet, work, trace),
+        _ => search_with(sheet, work, trace, fill),
     }
 }
 
 // Lends the front of a trace space, of the length that `given` has after that of the work space.
-fn lend_trace(is_call: bool, sheet: &[u8], given: &[u8], work: &mut [u8], trace: &mut [u8]) {
+fn lend_trace(kind: u8, sheet: &[u8], given: &[u8], work: &mut [u8], trace: &mut [u8]) {
     let length = text::four(text::rest(given, 4));
     if length <= trace.len() {
         run(
-            is_call,
+            kind,
             sheet,
             work,
             &mut trace[..length],
@@ -117,34 +161,26 @@ fn lend_trace(is_call: bool, sheet: &[u8], given: &[u8], work: &mut [u8], trace:
 }
 
 // Lends the front of a work space, of the length that `given` starts with.
-fn lend_work(is_call: bool, sheet: &[u8], given: &[u8], work: &mut [u8], trace: &mut [u8]) {
+fn lend_work(kind: u8, sheet: &[u8], given: &[u8], work: &mut [u8], trace: &mut [u8]) {
     let length = text::four(given);
     if length <= work.len() {
-        lend_trace(is_call, sheet, given, &mut work[..length], trace);
+        lend_trace(kind, sheet, given, &mut work[..length], trace);
     }
 }
 
-// Takes a body apart: a sheet after its length, then what is given of the spaces.
-fn lend(is_call: bool, body: &[u8]) {
+// A body is a sheet after its length, then what is given of the spaces. Kind v: the answer of the search,
+// and what it leaves in the spaces. Kind q: the number that the call for C programs returns. Kind l: that
+// number and the whole work space. Kind e: how the states that the search leaves are judged as a file.
+pub fn lend(kind: u8, body: &[u8]) {
     let mut work = [0u8; 65520];
     let mut trace = [0u8; 8192];
     let length = tasks::wide(text::byte(body, 0));
     let sheet = text::first(text::rest(body, 1), length);
     lend_work(
-        is_call,
+        kind,
         sheet,
         text::rest(body, 1 + length),
         &mut work,
         &mut trace,
     );
-}
-
-// Kind v, a sheet and two spaces: the answer of the search, and what it leaves in the spaces.
-pub fn search(body: &[u8]) {
-    lend(false, body);
-}
-
-// Kind q, a sheet and two spaces: the number that the call for C programs returns.
-pub fn call(body: &[u8]) {
-    lend(true, body);
 }

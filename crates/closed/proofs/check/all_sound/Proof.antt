@@ -3,7 +3,7 @@ use Prim.Native.Nat.{_-_, _≤_}
 use mathlib.Core.Path.{_≡_}
 use mathlib.Core.Bool.{true, false}
 use borrow.Author.Tests.{not-true, not-false}
-use Rattle.closed.specs.Closed.{stateIn}
+use Rattle.states.specs.Bytes.{stateIn}
 use Rattle.closed.specs.Keeping.{StateIs}
 use Rattle.closed.proofs.RowLaws.{SoundTo, sound-start, sound-next, sound-end, not-sound}
 use native.Mathlib.Omega.{arith}

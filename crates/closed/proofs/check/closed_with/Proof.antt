@@ -4,7 +4,8 @@ use mathlib.Core.Bool.{true, false}
 use borrow.Author.Tests.{not-true, not-false}
 use Rattle.tasks.specs.State.{start}
 use Rattle.tasks.specs.Words.{stateOf}
-use Rattle.closed.proofs.FileLaws.{held, held-key, start-bytes}
+use Rattle.states.proofs.ColumnLaws.{held, held-key}
+use Rattle.closed.proofs.FileLaws.{start-bytes}
 use Rattle.closed.proofs.AnswerLaws.{closed-is}
 use borrow.Author.Needs.{needs}
 use Rattle.closed.proofs.check.closed_with.Statement.{statement}

@@ -1,9 +1,8 @@
 -- The invariant: no state passed has the key. Assumes nothing.
 use Prim.Native.Nat.{_-_, _≤_}
 use mathlib.Core.Path.{_≡_, sym, ap, _∙_}
-use Rattle.states.specs.Keys.{sameKeys}
+use Rattle.states.specs.Keys.{sameKeys, keyIn}
 use Rattle.states.proofs.KeyLaws.{keys-same}
-use Rattle.closed.specs.Keeping.{keyIn}
 use Rattle.closed.proofs.FileLaws.{Scanned, scanned-start, scanned-next, scanned-end}
 use native.Mathlib.Omega.{arith}
 use borrow.Author.Needs.{needs}

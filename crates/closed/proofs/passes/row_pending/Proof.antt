@@ -12,7 +12,7 @@ use Rattle.tasks.specs.Words.{stateOf}
 use Rattle.tasks.proofs.InWords.{WordList}
 use Rattle.tasks.proofs.Free.{ticks, frees}
 use Rattle.states.proofs.MaskLaws.{walked-falls}
-use Rattle.closed.specs.Closed.{stateIn}
+use Rattle.states.specs.Bytes.{stateIn}
 use Rattle.closed.specs.Keeping.{landing}
 use Rattle.closed.proofs.RowLaws.{RowTo, Row, row-start, row-next, row-skipped, row-end}
 use native.Mathlib.Omega.{arith}

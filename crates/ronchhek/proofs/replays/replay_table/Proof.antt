@@ -3,7 +3,7 @@ use mathlib.Core.Path.{_≡_, sym, ap, _∙_}
 use Rattle.tasks.specs.Replay.{replayTick, outcomeTick}
 use Rattle.tasks.specs.declared.play.Replayed.{Replayed}
 use Rattle.tasks.proofs.Answers.{replay-is, writing-is}
-use Rattle.search.specs.Slot.{stateSpace}
+use Rattle.slots.specs.StateSpace.{stateSpace}
 use Rattle.ronchhek.specs.Replays.{refusedAt}
 use Rattle.ronchhek.proofs.ReplayLaws.{told, not-written, written-room, long-number, refused-number, unwritten-number, played-number, long-space, refused-space, played-space}
 use native.Mathlib.Omega.{arith}

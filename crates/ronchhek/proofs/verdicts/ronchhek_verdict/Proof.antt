@@ -1,6 +1,7 @@
 -- The figures of the search of the sheet, packed. Assumes nothing.
 use Prim.Native.Nat.{_-_}
 use Rattle.search.specs.Claim.{figures}
+use Rattle.search.proofs.ClaimLaws.{slots-few}
 use Rattle.ronchhek.proofs.VerdictLaws.{search-low}
 use borrow.Author.Needs.{needs}
 use Rattle.ronchhek.proofs.verdicts.ronchhek_verdict.Statement.{statement}
@@ -10,7 +11,7 @@ search-sheet-requires : tie.Need-search-sheet-requires
 search-sheet-requires c κs = search needs
 
 pack-requires : tie.Need-pack-requires
-pack-requires c κs = search-low (c .before .before .before .before .search-sheet .ensures)
+pack-requires c κs = search-low (slots-few _) (c .before .before .before .before .search-sheet .ensures)
 
 same-length : tie.Need-same-length
 same-length c = search needs

@@ -12,7 +12,7 @@ use Rattle.tasks.proofs.Free.{ticks, frees}
 use Rattle.levels.specs.Levels.{Calm, Hunting}
 use Rattle.levels.proofs.Explore.{hunt-start}
 use Rattle.states.specs.System.{system}
-use Rattle.search.specs.Slot.{stateAt}
+use Rattle.states.specs.Bytes.{stateIn}
 use Rattle.states.proofs.MaskLaws.{walked-start, walked-next, walked-falls}
 use Rattle.states.proofs.MissLaws.{calm-by}
 use Rattle.search.proofs.HuntLaws.{CalmTo, calm-end, hunt-turn, miss-from}
@@ -23,27 +23,27 @@ use Rattle.search.proofs.hunt.hunt.Tie as tie
 
 abbrev Inv-loop : tie.InvT-loop
 Inv-loop t ticker work lo hi i free state m₀ m =
-    CalmTo t (stateAt work i) free m × (free ≡ freeMask t (stateAt work i))
-    × ((mask : ℕ) → stateOf (tickedBy ticker state mask) ≡ after t (stateAt work i) mask)
+    CalmTo t (stateIn work i) free m × (free ≡ freeMask t (stateIn work i))
+    × ((mask : ℕ) → stateOf (tickedBy ticker state mask) ≡ after t (stateIn work i) mask)
 
 abbrev μ-loop : tie.MeasureT-loop
 μ-loop t ticker work lo hi i free state m₀ m = 256 - m
 
 abbrev Inv-hunt : tie.InvT-hunt
-Inv-hunt t ticker work lo hi i₀ i = (lo ≤ i) × (i ≤ hi) × Hunting (system t) (stateAt work) lo i
+Inv-hunt t ticker work lo hi i₀ i = (lo ≤ i) × (i ≤ hi) × Hunting (system t) (stateIn work) lo i
 
 abbrev μ-hunt : tie.MeasureT-hunt
 μ-hunt t ticker work lo hi i₀ i = hi - i
 
 -- the words are words
-word-list : (c : tie.After-words-at Inv-loop μ-loop Inv-hunt μ-hunt) → WordList (c .words-at .result)
+word-list : (c : tie.After-words-in Inv-loop μ-loop Inv-hunt μ-hunt) → WordList (c .words-in .result)
 word-list c = record { word = λ i h. search needs }
 
 hunt-holds : tie.Need-hunt-holds Inv-loop μ-loop Inv-hunt μ-hunt
 hunt-holds c = let r = c .before .pre in (omega arith, omega arith, hunt-start (system _))
 
-words-at-requires : tie.Need-words-at-requires Inv-loop μ-loop Inv-hunt μ-hunt
-words-at-requires c κs = search needs
+words-in-requires : tie.Need-words-in-requires Inv-loop μ-loop Inv-hunt μ-hunt
+words-in-requires c κs = search needs
 
 has-miss-requires : tie.Need-has-miss-requires Inv-loop μ-loop Inv-hunt μ-hunt
 has-miss-requires c κs = search needs
@@ -63,8 +63,8 @@ loop-holds c =
     let ne = c .before .before .before .before .before .if1 .left in
     let below : h .i < s .args .hi = omega (arith, h .inv .1) in (
       walked-start _ (omega (arith, c .before .free .ok)),
-      frees _ _ (s .pre .0) (c .before .free .ensures) ∙ ap (freeMask _) (w .words-at .ensures),
-      λ mask. ticks _ _ (s .pre .0) (c .prepare .ensures) (level .valid) (ap (improper _) (w .words-at .ensures) ∙ level .proper _ below) (word-list w) mask ∙ ap (λ u. after (s .args .t) u mask) (w .words-at .ensures),
+      frees _ _ (s .pre .0) (c .before .free .ensures) ∙ ap (freeMask _) (w .words-in .ensures),
+      λ mask. ticks _ _ (s .pre .0) (c .prepare .ensures) (level .valid) (ap (improper _) (w .words-in .ensures) ∙ level .proper _ below) (word-list w) mask ∙ ap (λ u. after (s .args .t) u mask) (w .words-in .ensures),
     )
 
 cast-mask : tie.Need-cast-mask Inv-loop μ-loop Inv-hunt μ-hunt
@@ -106,12 +106,12 @@ hunt-again c =
     let ne = c .before .before .before .if1 .left in
     let a = c .before .before .before .before .before .before .args in
     let below : h .i < a .hi = omega arith in
-    let s = stateAt (a .work .now) (h .i) in
+    let s = stateIn (a .work .now) (h .i) in
     let proper = level .proper (h .i) below in
     let calm : Calm (system (a .t)) s =
     ⊎-elim
     (λ w. calm-end (a .t) (level .valid) s proper (rw (← w .3 .inv .1) (w .3 .inv .0)) (w .4 .left))
-    (λ w. calm-by (a .t) (level .valid) s proper (c .before .before .words-at .ensures) (c .before .before .before .before .before .before .pre .0) (word-list (c .before .before)) (sym (c .before .has-miss .ensures) ∙ w .left))
+    (λ w. calm-by (a .t) (level .valid) s proper (c .before .before .words-in .ensures) (c .before .before .before .before .before .before .pre .0) (word-list (c .before .before)) (sym (c .before .has-miss .ensures) ∙ w .left))
     (c .if2 .came) in
     (omega arith, omega arith, hunt-turn (a .t) (a .work .now) (h .inv .2) calm)
 
@@ -138,7 +138,7 @@ hunt-spec =
     Inv-hunt
     μ-hunt
     hunt-holds
-    words-at-requires
+    words-in-requires
     has-miss-requires
     free-requires
     prepare-requires

@@ -2,7 +2,7 @@
 use Prim.Native.Nat.{_+_, _-_, _/_, _%_}
 use mathlib.Core.Path.{ap}
 use lib.Bits.{bitAnd, and-le-r}
-use Rattle.search.specs.Slot.{bucketFor}
+use Rattle.search.specs.Indexed.{bucketFor}
 use native.Mathlib.Omega.{arith}
 use borrow.Author.Needs.{needs}
 use Rattle.search.proofs.index.bucket.Statement.{statement}

@@ -4,20 +4,22 @@ use mathlib.Core.Path.{_≡_, sym, _∙_}
 use lib.ListN.{length}
 use Rattle.tasks.specs.Words.{stateOf}
 use Rattle.levels.proofs.Index.{Walk, walk-start, walk-next, walk-falls, walk-end}
-use Rattle.search.specs.Slot.{keyAt, bucketFor, bucketOf, tagOf, newest, tagsIn}
+use Rattle.states.specs.Keys.{keyIn}
+use Rattle.search.specs.Indexed.{bucketFor, bucketOf, tagOf, newest, tagsIn}
 use Rattle.states.proofs.WordLaws.{word-bytes}
 use Rattle.states.proofs.KeyLaws.{Bytes, keys-same, keys-differ}
-use Rattle.search.proofs.IndexLaws.{keyed, held, not-held, not-tagged}
+use Rattle.search.proofs.IndexLaws.{keyed, not-tagged}
+use Rattle.states.proofs.ColumnLaws.{held, held-key}
 use native.Mathlib.Omega.{arith}
 use borrow.Author.Needs.{needs}
 use Rattle.search.proofs.index.holds.Statement.{statement}
 use Rattle.search.proofs.index.holds.Tie as tie
 
 abbrev Inv-loop : tie.InvT-loop
-Inv-loop work heads n key b head cur₀ cur = Walk (bucketFor (length heads)) (keyAt work) n key cur
+Inv-loop work heads k n key b head cur₀ cur = Walk (bucketFor (length heads)) (keyIn work) n key cur
 
 abbrev μ-loop : tie.MeasureT-loop
-μ-loop work heads n key b head cur₀ cur = cur
+μ-loop work heads k n key b head cur₀ cur = cur
 
 bytes : (c : tie.Start Inv-loop μ-loop) → Bytes (stateOf (c .args .v))
 bytes c = word-bytes (c .args .v) (λ k b. search needs)
@@ -53,41 +55,49 @@ loop-holds c = rw (c .before .before .before .bucket .ensures .0) (walk-start (k
 sub-j : tie.Need-sub-j Inv-loop μ-loop
 sub-j c = search needs
 
-same-at-requires : tie.Need-same-at-requires Inv-loop μ-loop
-same-at-requires c κs = search needs
+key-in-requires : tie.Need-key-in-requires Inv-loop μ-loop
+key-in-requires c κs = search needs
+
+same-keys-requires : tie.Need-same-keys-requires Inv-loop μ-loop
+same-keys-requires c κs = search needs
 
 returns-2 : tie.Need-returns-2 Inv-loop μ-loop
 returns-2 c =
-    let l = c .before .before .before in
+    let l = c .before .before .before .before in
     let key = l .before .before .before .before .before in
     let known = key .before .before in
     let start = known .before in
-    let e = keys-same _ _ (sym (c .before .same-at .ensures) ∙ c .if2 .taken) in
-    held _ (stateOf (start .args .v)) _ (l .loop .cur - 1) (known .shared-slice-known .given) (bytes start) (omega (arith, l .loop .inv .low))
-    (e ∙ key .key-of .ensures)
+    let e = keys-same _ _ (sym (c .before .same-keys .ensures) ∙ c .if2 .taken) in
+    held _ (stateOf (start .args .v)) (known .shared-slice-known .given) (bytes start)
+    (record { place = l .loop .cur - 1; below = omega (arith, l .loop .inv .low); same = sym (c .before .before .key-in .ensures) ∙ e ∙ key .key-of .ensures })
 
 link-of-requires : tie.Need-link-of-requires Inv-loop μ-loop
-link-of-requires c κs = search needs
+link-of-requires c κs =
+    let x = c .before .before .before .before .before .before .before .before .before .before .before .before .pre in
+    let h = x .room in
+    (omega (arith, c .before .before .before .before .loop .inv .low), x .fits)
 
 loop-less : tie.Need-loop-less Inv-loop μ-loop
 loop-less c =
-    let l = c .before .before .before .before in
+    let l = c .before .before .before .before .before in
     let key = l .before .before .before .before .before in
     rw (c .link-of .ensures) (walk-falls (keyed (key .before .before .before .pre)) (key .key-of .result) (l .loop .cur) (omega arith) (l .loop .inv))
 
 loop-again : tie.Need-loop-again Inv-loop μ-loop
 loop-again c =
-    let l = c .before .before .before .before in
+    let l = c .before .before .before .before .before in
     let key = l .before .before .before .before .before in
+    let differ = keys-differ _ _ (sym (c .before .before .same-keys .ensures) ∙ c .before .if2 .left) in
     rw (c .link-of .ensures)
     (walk-next (keyed (key .before .before .before .pre)) (key .key-of .result) (l .loop .cur) (omega arith) (l .loop .inv)
-    (keys-differ _ _ (sym (c .before .before .same-at .ensures) ∙ c .before .if2 .left)))
+    (λ q. differ (c .before .before .before .key-in .ensures ∙ q)))
 
 returns-3 : tie.Need-returns-3 Inv-loop μ-loop
 returns-3 c =
     let l = c .before in
     let e : l .loop .cur ≡ 0 = omega arith in
-    not-held _ _ _ (rw (l .before .before .before .before .before .key-of .ensures) at (walk-end (rw e at (l .loop .inv))))
+    let none = rw (l .before .before .before .before .before .key-of .ensures) at (walk-end (rw e at (l .loop .inv))) in
+    λ h. none (held-key _ _ h)
 
 pub holds-spec : {M : Type 1} → statement M
 holds-spec =
@@ -104,7 +114,8 @@ holds-spec =
     cast-cur
     loop-holds
     sub-j
-    same-at-requires
+    key-in-requires
+    same-keys-requires
     returns-2
     link-of-requires
     loop-less

@@ -1,11 +1,11 @@
 -- The slot is written with the old newest slot as its link, and the head is then the slot, with its tag. Assumes nothing.
-use Prim.Native.Nat.{ℕ, _<_}
+use Prim.Native.Nat.{ℕ, _/_, _%_, _<_}
 use mathlib.Core.Path.{ap, _∙_}
 use native.Mathlib.Numerals.{add-one}
 use lib.ListN.{getD}
 use Rattle.tasks.specs.Words.{stateOf}
-use Rattle.search.specs.Slot.{bucketFor, bucketOf, tagOf, newest, tagsIn}
-use Rattle.search.proofs.SlotLaws.{placed}
+use Rattle.search.specs.Indexed.{bucketFor, bucketOf, tagOf, newest, tagsIn}
+use Rattle.slots.proofs.RunningLaws.{word-link, word-place, put-slot}
 use Rattle.states.proofs.WordLaws.{word-bytes}
 use Rattle.states.proofs.KeyLaws.{Bytes}
 use Rattle.search.proofs.TagLaws.{tags-fit}
@@ -27,41 +27,32 @@ key-of-requires c κs = search needs
 bucket-requires : tie.Need-bucket-requires
 bucket-requires c κs = search needs
 
-mul-at : tie.Need-mul-at
-mul-at c = search needs
-
 mul-head : tie.Need-mul-head
 mul-head c = search needs
 
 slice-read-head : tie.Need-slice-read-head
 slice-read-head c = search needs
 
-sub-put : tie.Need-sub-put
-sub-put c = search needs
+word-of-requires : tie.Need-word-of-requires
+word-of-requires c κs = search needs
 
-part-put-start : tie.Need-part-put-start
-part-put-start c = search needs
-
-part-put-end : tie.Need-part-put-end
-part-put-end c = search needs
-
-put-requires : tie.Need-put-requires
-put-requires c κs = search needs
+put-slot-requires : tie.Need-put-slot-requires
+put-slot-requires c κs = let x = c .before .before .before .before .before .before .before .pre in (x .1, x .0 .fits)
 
 tag-bit-requires : tie.Need-tag-bit-requires
 tag-bit-requires c κs = search needs
 
 mul-heads : tie.Need-mul-heads
-mul-heads c = let f = tags-fit _ _ (heads-fit (c .before .before .before .before .before .before .before .before) (c .before .before .before .before .before .before .bucket .result)) (c .tag-bit .ensures .1) in omega arith
+mul-heads c = let f = tags-fit _ _ (heads-fit (c .before .before .before .before .before .before .before .before .before) (c .before .before .before .before .before .before .before .bucket .result)) (c .tag-bit .ensures .1) in omega arith
 
 add-heads : tie.Need-add-heads
-add-heads c = search needs
+add-heads c = let x = c .before .before .before .before .before .before .before .before .before .before .before .pre in let n = x .1 in let k = x .0 .few in omega arith
 
 cast-heads : tie.Need-cast-heads
-cast-heads c = search needs
+cast-heads c = let x = c .before .before .before .before .before .before .before .before .before .before .before .pre in let n = x .1 in let k = x .0 .few in omega arith
 
 add-heads-2 : tie.Need-add-heads-2
-add-heads-2 c = let f = tags-fit _ _ (heads-fit (c .before .before .before .before .before .before .before .before) (c .before .before .before .before .before .before .bucket .result)) (c .tag-bit .ensures .1) in let n = c .before .before .before .before .before .before .before .before .before .before .pre .2 in omega arith
+add-heads-2 c = let f = tags-fit _ _ (heads-fit (c .before .before .before .before .before .before .before .before .before) (c .before .before .before .before .before .before .before .bucket .result)) (c .tag-bit .ensures .1) in let x = c .before .before .before .before .before .before .before .before .before .before .before .pre in let n = x .1 in let k = x .0 .few in omega arith
 
 mul-heads-2 : tie.Need-mul-heads-2
 mul-heads-2 c = search needs
@@ -78,16 +69,16 @@ same-length-2 c = search needs
 returns : tie.Need-returns
 unfolding bucketOf newest tagsIn tagOf
 returns c =
-    let put = c .before .before .before in
-    let bucket = c .before .before .before .before .before .before in
-    let start = c .before .before .before .before .before .before .before .before .before .before in
+    let start = c .before .before .before .before .before .before .before .before .before .before .before in
     let a = start .args in
-    let key = bucket .before .key-of .ensures in
-    let e = placed (a .work .now) (a .n) (stateOf (a .v)) (a .parent) (a .mask) _ _ (omega arith) (put .put .ensures) in
-    rw (e, c .tag-bit .ensures .0, key, add-one (a .n))
-    (pushed (start .pre .0) (stateOf (a .v)) (a .parent) (a .mask) (bucket .bucket .result) (start .pre .1) (start .pre .2)
-    (bytes start)
-    (omega arith) (bucket .bucket .ensures .0 ∙ ap (bucketFor _) key) (omega arith))
+    let key = c .before .before .before .before .before .before .before .before .key-of .ensures in
+    let bucket = c .before .before .before .before .before .before .before .bucket in
+    let word = c .before .before .before .before .before .word-of in
+    let fits = bytes start in
+    let put = put-slot (a .work .now) (stateOf (a .v)) (word .result) (a .mask) (start .pre .1) (start .pre .0 .fits) (fits .c-length) (fits .p-length) (omega (arith, word .ok)) in
+    rw (c .before .before .before .put-slot .ensures, c .tag-bit .ensures .0, key, add-one (a .n))
+    (pushed (start .pre .0) put (start .pre .1) (bucket .result) (ap (λ x. x % 1048576) (word .ensures) ∙ word-link (a .parent) _ (omega arith))
+    (bucket .ensures .0 ∙ ap (bucketFor _) key) (bucket .ensures .1) (ap (λ x. x / 1048576) (word .ensures) ∙ word-place (a .parent) _ (omega arith)))
 
 pub push-spec : {M : Type 1} → statement M
 push-spec =
@@ -95,13 +86,10 @@ push-spec =
     (tie.spec
     key-of-requires
     bucket-requires
-    mul-at
     mul-head
     slice-read-head
-    sub-put
-    part-put-start
-    part-put-end
-    put-requires
+    word-of-requires
+    put-slot-requires
     tag-bit-requires
     mul-heads
     add-heads

@@ -1,7 +1,7 @@
 -- One bit of twelve. Assumes nothing.
 use Prim.Native.Nat.{_/_, _%_, _^_}
 use mathlib.Core.Path.{ap, _∙_}
-use Rattle.search.specs.Slot.{tagFor}
+use Rattle.search.specs.Indexed.{tagFor}
 use Rattle.search.proofs.TagLaws.{tag-small}
 use native.Mathlib.Omega.{arith}
 use borrow.Author.Needs.{needs}

@@ -6,6 +6,7 @@ use mathlib.Core.Path.{_≡_, sym, _∙_}
 use Prim.Native.Nat.{_-_}
 use Rattle.tasks.proofs.Answers.{sheet-is, sheet-reading}
 use Rattle.tasks.proofs.RoundTrip.{read-valid}
+use Rattle.search.specs.Claim.{slotsIn}
 use Rattle.search.proofs.ClaimLaws.{sheet-fault, sheet-read, refused-search}
 use native.Mathlib.Omega.{arith}
 use borrow.Author.Needs.{needs}
@@ -39,14 +40,14 @@ returns c =
     let a = c .before .before .before .before .before .before .before .before .before .before .before .before .before .before .args in
     let read = c .before .before .before .before .before .before .before .before .before .before .read-sheet in
     let is = sheet-reading (read .ensures) ∙ c .before .before .before .before .before .before .before .enum-told .given .1 in
-    rw (sheet-read (a .work .now) (a .trace .now) (a .sheet .now) is, ← read .ensures .1) (c .before .before .before .before .search-valid .ensures)
+    rw (sheet-read (slotsIn (a .work .now)) (a .trace .now) (a .sheet .now) is, ← read .ensures .1) (c .before .before .before .before .search-valid .ensures)
 
 returns-2 : tie.Need-returns-2
 returns-2 c =
     let a = c .before .before .before .before .before .before .before .before .args in
     let read = c .before .before .before .before .read-sheet in
     let e : sheetOf (a .sheet .now) .answer ≡ Refused _ = sheet-reading (read .ensures) ∙ c .before .answer .given .1 in
-    refused-search (sheet-fault (a .work .now) (a .trace .now) (a .sheet .now) e) (sheet-refusal (a .sheet .now) e .0)
+    refused-search (sheet-fault (slotsIn (a .work .now)) (a .trace .now) (a .sheet .now) e) (sheet-refusal (a .sheet .now) e .0)
 
 pub search-sheet-spec : {M : Type 1} → statement M
 search-sheet-spec =

@@ -1,5 +1,6 @@
 -- The table is refused, or it is valid and is searched. Assumes nothing.
 use Prim.Native.Nat.{_-_}
+use Rattle.search.specs.Claim.{slotsIn}
 use Rattle.search.proofs.ClaimLaws.{table-fault, table-valid, refused-search}
 use borrow.Author.Needs.{needs}
 use Rattle.search.proofs.search.search_table.Statement.{statement}
@@ -12,7 +13,7 @@ returns : tie.Need-returns
 returns c =
     let a = c .before .before .before .before .args in
     let fault = c .before .fault .ensures in
-    rw fault (refused-search (table-fault (a .work .now) (a .trace .now) (a .t) (rw fault at (c .if1 .taken))) (rw fault at (c .if1 .taken)))
+    rw fault (refused-search (table-fault (slotsIn (a .work .now)) (a .trace .now) (a .t) (rw fault at (c .if1 .taken))) (rw fault at (c .if1 .taken)))
 
 search-valid-requires : tie.Need-search-valid-requires
 search-valid-requires c κs = search needs
@@ -26,7 +27,7 @@ same-length-2 c = search needs
 returns-2 : tie.Need-returns-2
 returns-2 c =
     let a = c .before .before .before .before .before .before .before .before .before .before .before .args in
-    rw (table-valid (a .work .now) (a .trace .now) (a .t) (rw (c .before .before .before .before .before .before .before .before .fault .ensures) at (c .before .before .before .before .before .before .before .if1 .left))) (c .before .before .before .before .search-valid .ensures)
+    rw (table-valid (slotsIn (a .work .now)) (a .trace .now) (a .t) (rw (c .before .before .before .before .before .before .before .before .fault .ensures) at (c .before .before .before .before .before .before .before .if1 .left))) (c .before .before .before .before .search-valid .ensures)
 
 pub search-table-spec : {M : Type 1} → statement M
 search-table-spec =

@@ -1,7 +1,7 @@
--- What the levels leave, with the links cleared, is what the claim says. Assumes nothing.
-use Prim.Native.Nat.{_-_}
+-- What the levels leave, with the parents in the place of the words and the report, is what the claim says. Assumes nothing.
+use mathlib.Core.Path.{refl, _∙_}
 use native.Mathlib.Omega.{arith}
-use Rattle.search.proofs.ClaimLaws.{ran-fits, ran-found}
+use Rattle.search.proofs.ClaimLaws.{slots-fit, slots-few, lent-fresh, settle-ready, report-ready, ran-found}
 use borrow.Author.Needs.{needs}
 use Rattle.search.proofs.search.search_with.Statement.{statement}
 use Rattle.search.proofs.search.search_with.Tie as tie
@@ -9,16 +9,38 @@ use Rattle.search.proofs.search.search_with.Tie as tie
 ticker-requires : tie.Need-ticker-requires
 ticker-requires c κs = search needs
 
+slice-aggregate-run-levels : tie.Need-slice-aggregate-run-levels
+slice-aggregate-run-levels c = search needs
+
 run-levels-requires : tie.Need-run-levels-requires
-run-levels-requires c κs = (c .before .before .before .ticker .ensures, search needs)
+run-levels-requires c κs =
+    let pre = c .before .before .before .before .before .before .before .pre in
+    (c .before .before .before .ticker .ensures, lent-fresh (pre .0) (pre .1) refl)
 
-count-of-requires : tie.Need-count-of-requires
-count-of-requires c κs = search needs
+written-requires : tie.Need-written-requires
+written-requires c κs = search needs
 
-clear-links-requires : tie.Need-clear-links-requires
-clear-links-requires c κs =
+slice-aggregate-settle : tie.Need-slice-aggregate-settle
+slice-aggregate-settle c = search needs
+
+settle-requires : tie.Need-settle-requires
+settle-requires c κs =
+    let start = c .before .before .before .before .before .before .before .before .before .before .before .before .before .before .before .before in
     let run = c .before .before .before .before .before .before .before .before .run-levels in
-    rw (c .before .count-of .ensures) (ran-fits (c .before .before .before .before .before .before .before .before .before .before .before .before .before .before .before .before .pre .0) (run .ensures) (run .kept .1 .1 .0))
+    let is = start .pre .0 .is in
+    let few = slots-few (start .args .work .now) in
+    let fit = slots-fit (start .args .work .now) in
+    let ready = settle-ready (run .ensures) (omega arith) in
+    rw (c .before .before .written .ensures) (ready .0, omega (arith, run .kept .1 .1 .0), run .kept .1 .1 .1 .1 .0, ready .1)
+
+report-requires : tie.Need-report-requires
+report-requires c κs =
+    let start = c .before .before .before .before .before .before .before .before .before .before .before .before .before .before .before .before .before .before .before .before .before in
+    let run = c .before .before .before .before .before .before .before .before .before .before .before .before .before .run-levels in
+    let settled = rw (c .before .before .before .before .before .before .before .written .ensures) at (c .before .before .before .before .settle .ensures) in
+    let is = start .pre .0 .is in
+    let fit = slots-fit (start .args .work .now) in
+    report-ready (run .ensures) settled (start .args .trace .now) (start .pre .0 .long) (omega (arith, settled .len, run .kept .1 .1 .0))
 
 same-length : tie.Need-same-length
 same-length c = search needs
@@ -31,18 +53,23 @@ same-length-3 c = search needs
 
 returns : tie.Need-returns
 returns c =
-    let run = c .before .before .before .before .before .before .before .before .before .before .before .run-levels in
-    let spaces = c .before .before .before .before .before .before .before .before .before .before .before .before .before .before .before .before .before .before .before .pre in
-    ran-found (spaces .0) (run .ensures) (spaces .1) (run .kept .1 .1 .0) (run .kept .1 .1 .1 .0) (λ i. omega (arith, c .before .before .before .before .before .before .before .slice-known5 .given i)) (rw (c .before .before .before .before .count-of .ensures) at (c .before .before .clear-links .ensures))
+    let start = c .before .before .before .before .before .before .before .before .before .before .before .before .before .before .before .before .before .before .before .before .before .before .before .before in
+    let run = c .before .before .before .before .before .before .before .before .before .before .before .before .before .before .before .before .run-levels in
+    let settled = rw (c .before .before .before .before .before .before .before .before .before .before .written .ensures) at (c .before .before .before .before .before .before .before .settle .ensures) in
+    let report = c .before .before .report in
+    ran-found (start .pre .0 .valid) (run .kept .1 .1 .0) (run .ensures) settled (report .result) (report .ensures) (report .kept .1 .0) (λ i. omega (arith, c .slice-known7 .given i))
 
 pub search-with-spec : {M : Type 1} → statement M
 search-with-spec =
     tie.close
     (tie.spec
     ticker-requires
+    slice-aggregate-run-levels
     run-levels-requires
-    count-of-requires
-    clear-links-requires
+    written-requires
+    slice-aggregate-settle
+    settle-requires
+    report-requires
     same-length
     same-length-2
     same-length-3

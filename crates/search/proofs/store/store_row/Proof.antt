@@ -20,13 +20,13 @@ use Rattle.search.proofs.store.store_row.Tie as tie
 abbrev Inv-loop : tie.InvT-loop
 Inv-loop ticker work₀ heads₀ k from i free state n₀ m₀ work heads n m =
     (from ≤ n) × (length heads ≡ length heads₀)
-    × ((t : Table) → ticker ≡ tickerOf t → RowReady t work₀ heads₀ k from i → RowBy t ticker state work₀ work heads k from n i free m)
+    × ((t : Table) → ticker ≡ tickerOf t → RowReady t k work₀ heads₀ from i → RowBy t ticker state k work₀ work heads from n i free m)
 
 abbrev μ-loop : tie.MeasureT-loop
 μ-loop ticker work₀ heads₀ k from i free state n₀ m₀ work heads n m = 256 - m
 
 -- the words are words
-word-list : (c : tie.After-words-at Inv-loop μ-loop) → WordList (c .words-at .result)
+word-list : (c : tie.After-words-in Inv-loop μ-loop) → WordList (c .words-in .result)
 word-list c = record { word = λ i h. search needs }
 
 -- where the row began, and the row of the table given
@@ -35,14 +35,14 @@ start l = l .before .before .before .before .before .before .before
 
 own :
     (l : tie.At-loop Inv-loop μ-loop)
-    → RowBy (start l .args .t) (start l .args .ticker) (l .before .prepare .result) (start l .args .work .now) (l .loop .work) (l .loop .heads) (start l .args .k) (start l .args .from) (l .loop .n) (start l .args .i) (l .before .before .free .result) (l .loop .m)
+    → RowBy (start l .args .t) (start l .args .ticker) (l .before .prepare .result) (start l .args .k) (start l .args .work .now) (l .loop .work) (l .loop .heads) (start l .args .from) (l .loop .n) (start l .args .i) (l .before .before .free .result) (l .loop .m)
 own l = l .loop .inv .2 (start l .args .t) (start l .pre .0) (start l .pre .1)
 
-words-at-requires : tie.Need-words-at-requires Inv-loop μ-loop
-words-at-requires c κs =
+words-in-requires : tie.Need-words-in-requires Inv-loop μ-loop
+words-in-requires c κs =
     let r = c .before .before .before .pre .1 in
-    let f = r .room .fits in
-    let g = r .room .room in
+    let f = r .indexed .fits in
+    let g = r .indexed .room in
     let h = r .below in
     omega arith
 
@@ -55,7 +55,7 @@ prepare-requires c κs = search needs
 loop-holds : tie.Need-loop-holds Inv-loop μ-loop
 loop-holds c =
     let first = c .before .before .before .before .before .before in
-    let at = c .before .before .words-at .ensures in (
+    let at = c .before .before .words-in .ensures in (
       omega arith,
       refl,
       λ t e ready. record {
@@ -70,9 +70,7 @@ cast-mask c = search needs
 
 try-mask-requires : tie.Need-try-mask-requires Inv-loop μ-loop
 try-mask-requires c κs =
-    let x = own (c .before .before .before) in
-    let h = start (c .before .before .before) .pre .1 .below in
-    (x .row .room, omega arith)
+    own (c .before .before .before) .row .indexed
 
 enum-told : tie.Need-enum-told Inv-loop μ-loop
 enum-told c = search needs
@@ -81,7 +79,7 @@ enum-told-2 : tie.Need-enum-told-2 Inv-loop μ-loop
 enum-told-2 c = search needs
 
 add-n : tie.Need-add-n Inv-loop μ-loop
-add-n c = let x = own (c .before .before .before .before .before .before .before .before .before .before) .row .room in let a = x .room in let b = x .few in omega arith
+add-n c = let x = own (c .before .before .before .before .before .before .before .before .before .before) .row .indexed in let a = x .room in let b = x .few in omega arith
 
 enum-told-3 : tie.Need-enum-told-3 Inv-loop μ-loop
 enum-told-3 c = search needs
@@ -148,7 +146,7 @@ store-row-spec =
     (tie.spec
     Inv-loop
     μ-loop
-    words-at-requires
+    words-in-requires
     free-requires
     prepare-requires
     loop-holds

@@ -39,9 +39,6 @@ returns-2 c =
       same = refl;
     }
 
-cast-push : tie.Need-cast-push
-cast-push c = search needs
-
 push-requires : tie.Need-push-requires
 push-requires c κs = search needs
 
@@ -54,7 +51,7 @@ same-length-6 c = search needs
 returns-3 : tie.Need-returns-3
 returns-3 c =
     let ne = c .before .before .before .before .before .before .before .if2 .left in
-    let r = c .before .before .before .before .before .before .before .before .before .before .before .before .before .before .before .pre .0 .room in
+    let r = c .before .before .before .before .before .before .before .before .before .before .before .before .before .before .before .pre .room in
     record {
       below = omega arith;
       absent = rw (c .before .before .before .before .before .before .before .before .before .before .before .before .after .ensures) at (rw (c .before .before .before .before .before .before .before .before .if1 .left) at (c .before .before .before .before .before .before .before .before .before .holds .ensures));
@@ -73,7 +70,6 @@ try-mask-spec =
     same-length-3
     same-length-4
     returns-2
-    cast-push
     push-requires
     same-length-5
     same-length-6

@@ -6,10 +6,10 @@ use Rattle.vectors.proofs.space.changed.Statement.{statement}
 use Rattle.vectors.proofs.space.changed.Tie as tie
 
 abbrev Inv-loop : tie.InvT-loop
-Inv-loop space from first step count₀ x₀ i₀ count x i = (i ≤ length space) × (count ≤ i)
+Inv-loop space from to first step count₀ x₀ i₀ count x i = (i ≤ length space) × (count ≤ i)
 
 abbrev μ-loop : tie.MeasureT-loop
-μ-loop space from first step count₀ x₀ i₀ count x i = length space - i
+μ-loop space from to first step count₀ x₀ i₀ count x i = length space - i
 
 loop-holds : tie.Need-loop-holds Inv-loop μ-loop
 loop-holds c = search needs
