@@ -1,21 +1,15 @@
 -- The states of a file and their keys: what a lookup by key says of states. Assumes nothing.
-use Prim.Native.Nat.{ℕ, _+_, _*_, _<_}
-use mathlib.Core.Path.{_≡_, refl, sym, ap, _∙_}
+use Prim.Native.Nat.{ℕ, _+_, _<_}
+use mathlib.Core.Path.{_≡_, refl, sym}
 use mathlib.Core.Bool.{Bool, true, false}
 use mathlib.Core.List.{List}
 use native.Mathlib.Omega.{arith}
 use borrow.Author.Count.{below-more}
-use lib.ListN.{getD}
-use mir.Syntax.{w8}
-use mir.Val.{Fits}
 use Rattle.tasks.specs.State.{start}
-use Rattle.tasks.specs.declared.state.State.{State}
 use Rattle.lists.proofs.Fill.{eight-at}
-use Rattle.levels.specs.Verdict.{Holds}
-use Rattle.states.specs.Keys.{keyOf, sameKeys, keyIn}
+use Rattle.states.specs.Keys.{sameKeys, keyIn}
 use Rattle.states.specs.declared.keys.Key.{Key}
-use Rattle.states.proofs.KeyLaws.{key-from, Bytes, bytes-from, one-state, keys-same, keys-differ}
-use Rattle.states.specs.Bytes.{stateIn}
+use Rattle.states.proofs.KeyLaws.{Bytes, keys-same, keys-differ}
 use Rattle.closed.specs.Keeping.{HeldIs, NamedIs}
 
 -- ---- what is compared

@@ -26,7 +26,7 @@ use Rattle.slots.specs.Running.{parentIn, Settled}
 use Rattle.slots.proofs.LayoutLaws.{stays-join}
 use Rattle.slots.proofs.RunningLaws.{marked-start}
 use Rattle.search.specs.Claim.{slotsOf, slotsIn, spacesRefusal, tableRefusal, sheetRefusal, Figures, figures, refusalFigures, Replays, Searched, Found, Search}
-use Rattle.search.specs.Keeping.{Ran, RanIs, RanBy, writtenBy, ReportReady, ReportIs, Lent, NoHeads, Fresh}
+use Rattle.search.specs.Keeping.{Ran, RanIs, RanBy, writtenBy, ReportReady, ReportIs, Lent, Fresh, Finishing}
 use Rattle.search.specs.declared.run.End.{End}
 use Rattle.search.specs.declared.run.End.the-variants as End
 use Rattle.search.proofs.ReportLaws.{traced-front, traced-rest}
@@ -222,18 +222,29 @@ zeros zero b = refl
 zeros (suc n) zero = refl
 zeros (suc n) (suc b) = zeros n b
 
-pub no-heads : {heads : List ℕ} {n : ℕ} → heads ≡ replicate n 0 → 0 < n → NoHeads heads
-no-heads {heads} {n} e h = record { buckets = rw e (omega (arith, length-replicate {A = ℕ} n 0)); empty = λ b. rw e (zeros n b) }
-
--- a valid table's spaces, with no slot filled yet
-pub lent-fresh : {t : Table} {w trace heads ends : List ℕ} {K : ℕ} → Lent t w trace K → NoHeads heads → ends ≡ replicate 245 1000000 → Fresh t K ends w heads
-lent-fresh {t} {w} {trace} {heads} {ends} {K} x y e =
+-- a valid table's spaces, with heads of no chain and no slot filled yet
+pub lent-fresh : {t : Table} {w trace heads ends : List ℕ} {K n : ℕ} → Lent t w trace K → heads ≡ replicate n 0 → 0 < n → ends ≡ replicate 245 1000000 → Fresh t K ends w heads
+lent-fresh {t} {w} {trace} {heads} {ends} {K} {n} x h some e =
     record {
       valid = x .valid;
       some = x .some;
       few = (let a = x .is in omega (arith, slots-few w));
       fits = (let a = x .is in omega (arith, slots-fit w));
-      buckets = y .buckets;
-      empty = y .empty;
-      marked = rw e (marked-start (length-replicate {A = ℕ} 245 1000000) (λ b h. all-same 245 1000000 b h));
+      buckets = rw h (omega (arith, length-replicate {A = ℕ} n 0));
+      empty = λ b. rw h (zeros n b);
+      marked = rw e (marked-start (length-replicate {A = ℕ} 245 1000000) (λ b l. all-same 245 1000000 b l));
+    }
+
+-- the levels have ended
+pub finishing : {t : Table} {K : ℕ} {ends w w₁ trace : List ℕ} {end : End} → Lent t w trace K → length ends ≡ 245 → length w₁ ≡ length w → RanBy t K ends w w₁ end → Finishing K ends w₁ trace end
+finishing {t} {K} {ends} {w} {w₁} {trace} {end} x long len ran =
+    let is = x .is in
+    let ready = settle-ready ran (omega (arith, slots-few w)) in
+    let fits : 21 * K ≤ length w₁ = omega (arith, slots-fit w) in
+    record {
+      len = long;
+      most = ready .0;
+      last = ready .1;
+      fits = fits;
+      ready = λ w′ z. report-ready ran z trace (x .long) (omega (arith, z .len));
     }

@@ -1,14 +1,14 @@
 -- The laws of the search's steps over the work space: it starts, goes on by a level, and ends with a verdict. Assumes nothing.
-use Prim.Native.Nat.{ℕ, suc, _+_, _≤_}
+use Prim.Native.Nat.{ℕ, _+_, _≤_}
 use mathlib.Core.Path.{_≡_, refl, _∙_}
-use mathlib.Core.List.{List, [], _∷_, _++_}
+use mathlib.Core.List.{List, []}
 use native.Mathlib.Omega.{arith}
 use native.Mathlib.Numerals.{add-one}
 use lib.ListN.{length}
 use Rattle.tasks.specs.State.{start}
 use Rattle.tasks.specs.declared.state.State.{State}
 use Rattle.tasks.specs.declared.table.Table.{Table}
-use Rattle.levels.specs.Verdict.Answer.{Unsafe, Safe, NoRoom}
+use Rattle.levels.specs.Verdict.Answer.{Safe, NoRoom}
 use Rattle.levels.specs.Levels.{Before, Hunting}
 use Rattle.levels.proofs.Replay.{reached}
 use Rattle.levels.proofs.Slots.{level-stored, miss-complete, filled-stored, safe-complete}

@@ -1,5 +1,5 @@
 -- Answer and count do not depend on the layout (document 02, §6: "for the same K answer and count are those of the old layout"). Assumes nothing.
-use Prim.Native.Nat.{ℕ, _<_}
+use Prim.Native.Nat.{ℕ}
 use mathlib.Core.Path.{_≡_, sym, ap, _∙_}
 use mathlib.Core.List.{List}
 use native.Mathlib.Omega.{arith}

@@ -20,7 +20,7 @@ use Rattle.lists.proofs.Bools.{by-bool}
 use Rattle.tasks.proofs.Free.{free-small}
 use Rattle.levels.specs.Verdict.Tick.{Next, Missed, Refused}
 use Rattle.levels.specs.Verdict.{System}
-use Rattle.levels.specs.Levels.{Before, Grown, Filling}
+use Rattle.levels.specs.Levels.{Before, Filling}
 use Rattle.levels.proofs.Legal.{Row}
 use Rattle.levels.proofs.Slots.{rule-same, filled-stored}
 use Rattle.levels.proofs.Trails.{trail-same}
@@ -28,9 +28,8 @@ use Rattle.levels.proofs.Steps.{search-row, search-known, search-push, search-c
 use Rattle.states.specs.Bytes.{stateIn}
 use Rattle.states.specs.System.{step, system}
 use Rattle.states.specs.Masks.{follows}
-use Rattle.slots.specs.Layout.{columns}
 use Rattle.slots.specs.Running.{endsAfter, Marked}
-use Rattle.slots.proofs.LayoutLaws.{stays-none, stays-more, stays-join}
+use Rattle.slots.proofs.LayoutLaws.{stays-none, stays-join}
 use Rattle.slots.proofs.RunningLaws.{marked-more, marked-after, marked-last, parent-now, parent-same, parents-after}
 use Rattle.search.specs.Indexed.{Indexed}
 use Rattle.search.specs.Keeping.{FillingIn, Level, Known, Added, Crowded, Kept, Carries, RowReady, RowDone, RowFull, LevelDone, LevelFull}

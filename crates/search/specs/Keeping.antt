@@ -18,8 +18,8 @@ use Rattle.levels.specs.Levels.{trail, Before, Hunting, Filling}
 use Rattle.states.specs.Bytes.{stateIn}
 use Rattle.states.specs.System.{step, system}
 use Rattle.slots.specs.Layout.{columns, parentAt, maskAt, Stays}
-use Rattle.slots.specs.Running.{parentIn, Marked}
-use Rattle.search.specs.Claim.{slotsIn}
+use Rattle.slots.specs.Running.{parentIn, Marked, Settled}
+use Rattle.search.specs.Claim.{slotsIn, figures, Found}
 use Rattle.search.specs.Indexed.{Indexed, Pushed}
 use Rattle.search.specs.declared.hunt.HuntAnswer.{HuntAnswer}
 use Rattle.search.specs.declared.hunt.HuntAnswer.the-variants.{Miss, Clear}
@@ -214,7 +214,15 @@ pub record Lent (t : Table) (w trace : List ℕ) (K : ℕ) : Type 0 where
   pub some : 1 ≤ K
   pub long : K ≤ length trace
 
--- heads of no chain yet
-pub record NoHeads (heads : List ℕ) : Type 0 where
-  pub buckets : 0 < length heads
-  pub empty : (b : ℕ) → getD heads b 0 ≡ 0
+-- what is asked once the levels have ended: the written slots are among K, and once they are as the paper has them the report may be made
+pub record Finishing (K : ℕ) (ends w trace : List ℕ) (end : End) : Type 0 where
+  pub len : length ends ≡ 245
+  pub most : writtenBy K end ≤ K
+  pub last : writtenBy K end ≤ getD ends 244 0
+  pub fits : 21 * K ≤ length w
+  pub ready : (w′ : List ℕ) → Settled K ends w w′ (writtenBy K end) → ReportReady K w′ trace end
+
+-- .. and what is left then: what the levels found of a valid table, w₀ being the work space at first, is the claim
+pub record Finished (K : ℕ) (ends w w′ trace trace′ : List ℕ) (end : End) (r : SearchAnswer) : Type 0 where
+  pub found :
+      (t : Table) (w₀ : List ℕ) → tableFault t ≡ 0 → length w ≡ length w₀ → RanBy t K ends w₀ w end → Found (columns K) K t w₀ w′ trace trace′ (figures r)

@@ -3,7 +3,6 @@
 // new are known as such by these bits alone.
 ghost use mathlib.Core.Path.{_≡_};
 ghost use Prim.Native.Nat.{_^_, _<_};
-ghost use lib.ListN.{length};
 ghost use Rattle.tasks.specs.Words.{stateOf};
 ghost use Rattle.search.specs.Indexed.{bucketFor, tagFor, Indexed, HeldIs, Pushed};
 use slots::link_of;

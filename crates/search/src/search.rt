@@ -4,7 +4,7 @@ ghost use Prim.Native.Nat.{_/_, min};
 ghost use Rattle.tasks.specs.Table.{tableFault};
 ghost use Rattle.slots.specs.Layout.{columns};
 ghost use Rattle.search.specs.Claim.{slotsIn, spacesRefusal, figures, Found, Search, TableSearch, SheetSearch};
-ghost use Rattle.search.specs.Keeping.{writtenBy, Lent, NoHeads};
+ghost use Rattle.search.specs.Keeping.{writtenBy, Fresh, RanBy, Lent, Finishing, Finished};
 use crate::outcome::report;
 use crate::run::End;
 use crate::run::SearchAnswer;
@@ -32,22 +32,23 @@ fn written(k: usize, end: End) -> usize
     }
 }
 
-// Searches with the heads given, writes the parents in the place of the words, and reports.
-fn search_with(
-    t: Table,
-    work: &mut [u8],
-    trace: &mut [u8],
-    heads: &mut [u32],
-    k: usize,
-) -> SearchAnswer
-    requires { ⌜ Lent t (now work) (now trace) k × NoHeads (now heads) ⌝ }
-    ensures { λ r. ⌜ Found (columns k) k t (now (work .entry)) (now (work .exit)) (now (trace .entry)) (now (trace .exit)) (figures r) ⌝ }
+// Searches the states of a valid table, with no slot of k filled yet. The words stay in the place of the parents.
+fn search_levels(t: Table, work: &mut [u8], heads: &mut [u32], ends: &mut [u32], k: usize) -> End
+    requires { ⌜ Fresh t k (now ends) (now work) (now heads) ⌝ }
+    ensures { λ r. ⌜ RanBy t k (now (ends .exit)) (now (work .entry)) (now (work .exit)) r ⌝ }
 {
     let ticker = t.ticker();
-    let mut ends = [1000000u32; 245];
-    let end = run_levels(t, ticker, work, heads, &mut ends, k);
+    run_levels(t, ticker, work, heads, ends, k)
+}
+
+// Writes the parents in the place of the words, and reports. It stands apart from the levels: with the last pass in line, their loops took up to a
+// tenth longer.
+fn finish(work: &mut [u8], trace: &mut [u8], ends: &[u32], k: usize, end: End) -> SearchAnswer
+    requires { ⌜ Finishing k (now ends) (now work) (now trace) end ⌝ }
+    ensures { λ r. ⌜ Finished k (now (ends .entry)) (now (work .entry)) (now (work .exit)) (now (trace .entry)) (now (trace .exit)) end r ⌝ }
+{
     let n = written(k, end);
-    settle(work, &ends, k, n);
+    settle(work, ends, k, n);
     report(work, trace, k, end)
 }
 
@@ -57,7 +58,9 @@ fn search_small(t: Table, work: &mut [u8], trace: &mut [u8], k: usize) -> Search
     ensures { λ r. ⌜ Found (columns k) k t (now (work .entry)) (now (work .exit)) (now (trace .entry)) (now (trace .exit)) (figures r) ⌝ }
 {
     let mut heads = [0u32; 4096];
-    search_with(t, work, trace, &mut heads, k)
+    let mut ends = [1000000u32; 245];
+    let end = search_levels(t, work, &mut heads, &mut ends, k);
+    finish(work, trace, &ends, k, end)
 }
 
 // Up to 262,144 slots: 256 KB of heads.
@@ -66,7 +69,9 @@ fn search_medium(t: Table, work: &mut [u8], trace: &mut [u8], k: usize) -> Searc
     ensures { λ r. ⌜ Found (columns k) k t (now (work .entry)) (now (work .exit)) (now (trace .entry)) (now (trace .exit)) (figures r) ⌝ }
 {
     let mut heads = [0u32; 65536];
-    search_with(t, work, trace, &mut heads, k)
+    let mut ends = [1000000u32; 245];
+    let end = search_levels(t, work, &mut heads, &mut ends, k);
+    finish(work, trace, &ends, k, end)
 }
 
 // Up to 1,000,000 slots: 1 MB of heads.
@@ -75,7 +80,9 @@ fn search_large(t: Table, work: &mut [u8], trace: &mut [u8], k: usize) -> Search
     ensures { λ r. ⌜ Found (columns k) k t (now (work .entry)) (now (work .exit)) (now (trace .entry)) (now (trace .exit)) (figures r) ⌝ }
 {
     let mut heads = [0u32; 262144];
-    search_with(t, work, trace, &mut heads, k)
+    let mut ends = [1000000u32; 245];
+    let end = search_levels(t, work, &mut heads, &mut ends, k);
+    finish(work, trace, &ends, k, end)
 }
 
 // The search with the heads for a work space of k slots, chosen step by step from the fewest on. It calls itself: the compiler

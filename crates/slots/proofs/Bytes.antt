@@ -8,7 +8,6 @@ use native.Mathlib.Omega.{arith}
 use native.Mathlib.Nat.{add-assoc, add-zero, div-div-eq-div-mul, div-add-mod', mod-eq-of-lt}
 use lib.ListN.{length, getD, take, drop, set, length-set, length-drop, drop-of-length-le}
 use lib.Seq.{sets, sets-eq, length-sets, take-all, drop-drop, getD-set-same, getD-set-other}
-use Rattle.lists.specs.Lists.{eight}
 use Rattle.lists.proofs.Fill.{eight-same, filled-end}
 use Rattle.tasks.specs.declared.state.State.{State}
 use Rattle.states.specs.Bytes.{fourAt, twos, stateFrom, stateBytes}

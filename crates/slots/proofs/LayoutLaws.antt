@@ -1,16 +1,14 @@
 -- The laws of a layout whose parts do not overlap: a part written is read back, and every other part stays. Assumes nothing.
 use Prim.Native.Nat.{ℕ, suc, _+_, _-_, _*_, _≤_, _<_}
 use mathlib.Core.Path.{_≡_, refl, sym, ap, _∙_}
-use mathlib.Core.Logic.{_⊎_, ⊎-elim}
+use mathlib.Core.Logic.{_⊎_}
 use mathlib.Core.Logic._⊎_.{inl, inr}
-use mathlib.Core.List.{List, [], _∷_}
+use mathlib.Core.List.{List}
 use native.Mathlib.Omega.{arith}
 use native.Mathlib.Decide.{decLt}
 use native.Mathlib.Nat.{add-zero}
-use lib.ListN.{length, getD, replicate, length-replicate}
-use lib.Seq.{sets, length-sets}
-use Rattle.tasks.specs.declared.state.State.{State}
-use Rattle.states.specs.Bytes.{stateBytes}
+use lib.ListN.{length, getD, drop, length-drop, length-replicate}
+use lib.Seq.{length-sets, ext-getD, getD-drop}
 use Rattle.slots.specs.Layout.{Slot, Layout, columns, rows, Part, begin, size, Inside, Apart, FitsIn, stateAt, parentAt, maskAt, partBytes, writePart, writeSlot, Stays}
 use Rattle.slots.specs.Layout.Part.{OfState, OfParent, OfMask}
 use Rattle.slots.proofs.Bytes.{sets-other, sets-here, four-length, state-length, state-same, state-read, four-same, four-read}
@@ -229,3 +227,33 @@ rows-apart K i j c d b h k x y =
 
 pub rows-fit : (K n : ℕ) → 24 * K ≤ n → FitsIn rows K n
 rows-fit K n h i c low = let u = rows-end c in let e = rows-begin c i in omega arith
+
+-- ---- the bytes that stay, place by place
+
+-- a byte of an unwritten slot in one of the columns, or after the third
+abbrev pub Unwritten : ℕ → ℕ → ℕ → Type 0
+Unwritten K n b = ((16 * n ≤ b) × (b < 16 * K)) ⊎ (((16 * K + 4 * n ≤ b) × (b < 20 * K)) ⊎ (20 * K + n ≤ b))
+
+columns-outside : (K n b i : ℕ) (c : Part) → n ≤ K → i < n → Unwritten K n b → Inside (columns K) i c b → ⊥
+columns-outside K n b i OfState h low (inl u) q = let y = q .below in omega (arith, u .0)
+columns-outside K n b i OfState h low (inr (inl u)) q = let y = q .below in omega (arith, u .0)
+columns-outside K n b i OfState h low (inr (inr u)) q = let y = q .below in omega arith
+columns-outside K n b i OfParent h low (inl u) q = let x = q .from in omega (arith, u .1)
+columns-outside K n b i OfParent h low (inr (inl u)) q = let y = q .below in omega (arith, u .0)
+columns-outside K n b i OfParent h low (inr (inr u)) q = let y = q .below in omega arith
+columns-outside K n b i OfMask h low (inl u) q = let x = q .from in omega (arith, u .1)
+columns-outside K n b i OfMask h low (inr (inl u)) q = let x = q .from in omega (arith, u .1)
+columns-outside K n b i OfMask h low (inr (inr u)) q = let y = q .below in omega arith
+
+-- LAW: "Work bytes that stay are now those of unwritten slots in each column and those after the third" (02, §6)
+pub columns-stay : {K n : ℕ} {w w′ : List ℕ} → n ≤ K → Stays (columns K) n w w′ → (b : ℕ) → Unwritten K n b → getD w′ b 0 ≡ getD w b 0
+columns-stay {K} {n} h x b u = x .byte b (λ i c low q. columns-outside K n b i c h low u q)
+
+-- LAW: in rows, "Every later work byte stays" (01)
+pub rows-stay : {n : ℕ} {w w′ : List ℕ} → length w′ ≡ length w → Stays rows n w w′ → drop (24 * n) w′ ≡ drop (24 * n) w
+rows-stay {n} {w} {w′} e x =
+    ext-getD 0 (drop (24 * n) w′) (drop (24 * n) w) (length-drop (24 * n) w′ ∙ ap (λ l. l - 24 * n) e ∙ sym (length-drop (24 * n) w))
+    (λ k h. getD-drop (24 * n) w′ k 0 ∙ x .byte (24 * n + k) (λ i c low q. later i c k low (q .below)) ∙ sym (getD-drop (24 * n) w k 0))
+  where
+    later : (i : ℕ) (c : Part) (k : ℕ) → i < n → 24 * n + k < begin rows c i + size rows c → ⊥
+    later i c k low h = let u = rows-end c in let e = rows-begin c i in omega arith

@@ -4,8 +4,8 @@ use Prim.Native.Nat.{ℕ, zero, suc, _+_, _*_, _≤_, _<_}
 use mathlib.Core.Path.{_≡_, refl, sym, ap, _∙_}
 use mathlib.Core.List.{List, [], _∷_, _++_, append-assoc, append-nil}
 use native.Mathlib.Omega.{arith}
-use lib.ListN.{length, getD}
-use Rattle.slots.specs.Layout.{Slot, Layout, columns, rows, Apart, FitsIn, stateAt, parentAt, maskAt, slotAt, readSlots, writeSlot, writeFrom, writeSlots}
+use lib.ListN.{length}
+use Rattle.slots.specs.Layout.{Slot, Layout, columns, rows, Apart, FitsIn, slotAt, readSlots, writeSlot, writeFrom, writeSlots}
 use Rattle.slots.proofs.LayoutLaws.{slot-long, slot-state-stays, slot-parent-stays, slot-mask-stays, slot-state, slot-parent, slot-mask, columns-apart, columns-fit, rows-apart, rows-fit}
 
 -- a slot that a work space can hold: a state of eight tasks, and a parent of four bytes

@@ -1,24 +1,22 @@
 -- The laws of the layout while a search runs: a slot written, an end set, and the last pass. Assumes nothing.
 use Prim.Native.Nat.{ℕ, zero, suc, _+_, _-_, _*_, _/_, _%_, _≤_, _<_}
 use mathlib.Core.Path.{_≡_, refl, sym, ap, _∙_}
-use mathlib.Core.Bool.{true, false}
 use mathlib.Core.List.{List, [], _∷_}
 use native.Mathlib.Omega.{arith}
 use native.Mathlib.Decide.{decLt, ℕ-discrete}
 use native.Mathlib.Nat.{div-add-mod'}
 use borrow.Author.Count.{below-more}
 use borrow.Author.Tests.{lt-ltb, le-ltb, eq-eqb, ne-eqb}
-use lib.Dec.{eqb, ltb}
+use lib.Dec.{ltb}
 use lib.ListN.{length, getD, set, length-set}
 use lib.Seq.{sets, getD-set-same, getD-set-other}
 use Rattle.lists.specs.Lists.{pick}
-use Rattle.lists.proofs.Bools.{by-bool}
 use Rattle.tasks.specs.State.{start}
-use Rattle.states.specs.Bytes.{stateIn}
+use Rattle.states.specs.Bytes.{fourAt, stateIn}
 use Rattle.tasks.specs.declared.state.State.{State}
 use Rattle.slots.specs.Layout.{Slot, slot, columns, fourBytes, stateAt, parentAt, maskAt, writePart, writeSlot, Stays}
 use Rattle.slots.specs.Layout.Part.{OfParent}
-use Rattle.slots.specs.Running.{wordAt, linkAt, wordOf, blockOf, parentIn, endsAfter, Ended, Marked, Settled}
+use Rattle.slots.specs.Running.{wordAt, wordOf, blockOf, parentIn, endsAfter, Ended, Marked, Settling, Settled}
 use Rattle.slots.proofs.LayoutLaws.{differ, part-long, part-other, state-stays, parent-stays, mask-stays, parent-written}
 use Rattle.slots.proofs.LayoutLaws.{slot-long, slot-other, slot-state-stays, slot-parent-stays, slot-mask-stays, slot-state, slot-parent, slot-mask, stays-none, columns-apart, columns-fit}
 
@@ -98,6 +96,17 @@ block-set (x ∷ ends) (suc b) n i h k = ap (λ r. pick (ltb i x) 0 (suc r)) (bl
 
 pub ended-more : {ends : List ℕ} {b i j : ℕ} → i ≤ j → Ended ends b i → Ended ends b j
 ended-more h x = record { past = λ c l. omega (arith, x .past c l) }
+
+pub ended-next : {ends : List ℕ} {b i : ℕ} → Ended ends b i → getD ends b 0 ≤ i → Ended ends (b + 1) i
+ended-next {ends} {b} {i} x h = record { past = below-more (λ c. getD ends c 0 ≤ i) b (x .past) h }
+
+-- where the last end is above n, not all blocks have ended before n
+pub ended-low : {ends : List ℕ} {b i n : ℕ} → n ≤ getD ends 244 0 → Ended ends b i → i < n → b < 245
+ended-low {ends} {b} {i} {n} last x h =
+    elim (decLt b 245) [
+      | yes l ↦ l
+      | no l ↦ absurd (omega (arith, x .past 244 (omega arith)))
+    ]
 
 -- ---- the ends of the blocks
 
@@ -192,15 +201,6 @@ parent-same ends K w w′ j e = rw e
 
 -- ---- the last pass
 
--- the first i slots have their parents, and those after them their words
-pub record Settling (K : ℕ) (ends w w′ : List ℕ) (i : ℕ) : Type 0 where
-  pub len : length w′ ≡ length w
-  pub done : (j : ℕ) → j < i → parentAt (columns K) w′ j ≡ parentIn K ends w j
-  pub left : (j : ℕ) → i ≤ j → j < K → wordAt K w′ j ≡ wordAt K w j
-  pub states : (j : ℕ) → j < K → stateAt (columns K) w′ j ≡ stateAt (columns K) w j
-  pub masks : (j : ℕ) → j < K → maskAt (columns K) w′ j ≡ maskAt (columns K) w j
-  pub rest : Stays (columns K) i w w′
-
 pub settling-start : {K : ℕ} {ends w : List ℕ} → Settling K ends w w 0
 settling-start = record {
   len = refl;
@@ -243,12 +243,19 @@ module _ {K : ℕ} {ends w w′ : List ℕ} {i : ℕ} (x : Settling K ends w w�
   unfolding parentIn
   parent-by b e = rw (e, x .left i (omega arith) low)
 
+  -- a word is one of 32 bits
+  word-fits : ((j : ℕ) → getD w j 0 < 256) → wordAt K w′ i < 4294967296
+  unfolding parentAt fourAt
+  word-fits bytes =
+      rw (x .left i (omega arith) low)
+      (let a = 16 * K + 4 * i in let e = bytes a in let f = bytes (a + 1) in let g = bytes (a + 2) in let h = bytes (a + 3) in omega arith)
+
   pub settling-next :
-      {b : ℕ} → b ≡ blockOf ends i → b < 245 → wordAt K w′ i < 4294967296
+      {b : ℕ} → b ≡ blockOf ends i → b < 245 → ((j : ℕ) → getD w j 0 < 256)
       → Settling K ends w (sets w′ (16 * K + 4 * i) (fourBytes (4096 * b + wordAt K w′ i / 1048576))) (i + 1)
-  settling-next {b} is few small =
+  settling-next {b} is few bytes =
       rw (parent-part K w′ i (4096 * b + wordAt K w′ i / 1048576))
-      (settling-part (4096 * b + wordAt K w′ i / 1048576) (parent-by b is) (omega arith))
+      (settling-part (4096 * b + wordAt K w′ i / 1048576) (parent-by b is) (let small = word-fits bytes in omega arith))
 
 pub settling-end : {K : ℕ} {ends w w′ : List ℕ} {n : ℕ} → Settling K ends w w′ n → n ≤ K → Settled K ends w w′ n
 settling-end {K} {ends} {w} {w′} {n} x h = record {

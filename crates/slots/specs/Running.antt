@@ -46,6 +46,26 @@ pub record Marked (ends : List ℕ) (i n : ℕ) : Type 0 where
   pub ended : Ended ends (i / 4096) n
   pub unset : (b : ℕ) → i / 4096 ≤ b → b < 245 → getD ends b 0 ≡ 1000000
 
+-- ---- the last pass
+
+-- the first i slots have their parents, and those after them their words
+pub record Settling (K : ℕ) (ends w w′ : List ℕ) (i : ℕ) : Type 0 where
+  pub len : length w′ ≡ length w
+  pub done : (j : ℕ) → j < i → parentAt (columns K) w′ j ≡ parentIn K ends w j
+  pub left : (j : ℕ) → i ≤ j → j < K → wordAt K w′ j ≡ wordAt K w j
+  pub states : (j : ℕ) → j < K → stateAt (columns K) w′ j ≡ stateAt (columns K) w j
+  pub masks : (j : ℕ) → j < K → maskAt (columns K) w′ j ≡ maskAt (columns K) w j
+  pub rest : Stays (columns K) i w w′
+
+-- the slots from `from` to `to` - 1, where all are of block b: r slots have their parents now, whatever the pass began with
+pub record BlockSettled (K b from to : ℕ) (w w′ : List ℕ) (r : ℕ) : Type 0 where
+  pub low : from ≤ r
+  pub upto : to ≤ r
+  pub most : (m : ℕ) → from ≤ m → to ≤ m → r ≤ m
+  pub carries :
+      (ends w₀ : List ℕ) → ((j : ℕ) → getD w₀ j 0 < 256) → ((j : ℕ) → from ≤ j → j < to → blockOf ends j ≡ b)
+      → Settling K ends w₀ w from → Settling K ends w₀ w′ r
+
 -- w′ is w with the first n slots as the paper has them
 pub record Settled (K : ℕ) (ends w w′ : List ℕ) (n : ℕ) : Type 0 where
   pub len : length w′ ≡ length w

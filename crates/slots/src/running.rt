@@ -4,7 +4,7 @@ ghost use Prim.Native.Nat.{_+_, _*_, _/_, _<_, _≤_};
 ghost use lib.ListN.{length, getD};
 ghost use lib.Seq.{sets};
 ghost use Rattle.slots.specs.Layout.{fourBytes};
-ghost use Rattle.slots.specs.Running.{wordAt, wordOf, blockOf, endsAfter, Ended, Settled};
+ghost use Rattle.slots.specs.Running.{wordAt, wordOf, endsAfter, BlockSettled, Settled};
 use crate::read::parent_of;
 use crate::write::put_parent;
 
@@ -27,38 +27,48 @@ pub fn end_row(ends: &mut [u32], i: usize, n: usize)
     }
 }
 
-// The block of slot i's parent, where those before block b have ended: the first from b on whose end is above i.
-fn block_from(ends: &[u32], b: usize, i: usize) -> usize
-    requires { ⌜ (b < 245) × (length (now ends) ≡ 245) × (i < getD (now ends) 244 0) × Ended (now ends) b i ⌝ }
-    ensures { λ r. ⌜ (r ≡ blockOf (now (ends .entry)) i) × (r < 245) × Ended (now (ends .entry)) r i ⌝ }
-{
-    let mut r = b;
-    while (ends[r] as usize) <= i {
-        r += 1;
-    }
-    r
-}
-
 // Writes the parent of slot i, which is of block b, in the place of its word.
 fn settle_slot(work: &mut [u8], k: usize, b: usize, i: usize)
     requires { ⌜ (i < k) × (21 * k ≤ length (now work)) × (b < 245) ⌝ }
-    ensures { λ _. ⌜ (wordAt k (now (work .entry)) i < 4294967296) × (now (work .exit) ≡ sets (now (work .entry)) (16 * k + 4 * i) (fourBytes (4096 * b + wordAt k (now (work .entry)) i / 1048576))) ⌝ }
+    ensures { λ _. ⌜ now (work .exit) ≡ sets (now (work .entry)) (16 * k + 4 * i) (fourBytes (4096 * b + wordAt k (now (work .entry)) i / 1048576)) ⌝ }
 {
     let at = 16 * k + 4 * i;
     let parent = 4096 * (b as u32) + parent_of(work, k, i) / 1048576;
     put_parent(&mut work[at..], parent);
 }
 
-// Writes the parents of the first n slots of k.
+// Writes the parents of the slots from `from` to `to` - 1, all of block b, and says how many slots have theirs then.
+fn settle_block(work: &mut [u8], k: usize, b: usize, from: usize, to: usize) -> usize
+    requires { ⌜ (to ≤ k) × (21 * k ≤ length (now work)) × (b < 245) ⌝ }
+    ensures { λ r. ⌜ BlockSettled k b from to (now (work .entry)) (now (work .exit)) r ⌝ }
+{
+    let mut i = from;
+    while i < to {
+        settle_slot(work, k, b, i);
+        i += 1;
+    }
+    i
+}
+
+// How many of n slots have parents of block b or of one before it: the block's end, or n where that is above n.
+fn end_within(ends: &[u32], b: usize, n: usize) -> usize
+    requires { ⌜ b < length (now ends) ⌝ }
+    ensures { λ r. ⌜ (r ≤ getD (now (ends .entry)) b 0) × (r ≤ n) × (r < n → r ≡ getD (now (ends .entry)) b 0) ⌝ }
+{
+    let end = ends[b] as usize;
+    if end < n { end } else { n }
+}
+
+// Writes the parents of the first n slots of k, block by block.
 pub fn settle(work: &mut [u8], ends: &[u32], k: usize, n: usize)
     requires { ⌜ (n ≤ k) × (21 * k ≤ length (now work)) × (length (now ends) ≡ 245) × (n ≤ getD (now ends) 244 0) ⌝ }
     ensures { λ _. ⌜ Settled k (now (ends .entry)) (now (work .entry)) (now (work .exit)) n ⌝ }
 {
     let mut b: usize = 0;
-    let mut i: usize = 0;
-    while i < n {
-        b = block_from(ends, b, i);
-        settle_slot(work, k, b, i);
-        i += 1;
+    let mut from: usize = 0;
+    while from < n {
+        let to = end_within(ends, b, n);
+        from = settle_block(work, k, b, from, to);
+        b += 1;
     }
 }

@@ -1,18 +1,27 @@
 -- Heads that are all 0 index no slot. Assumes nothing.
 use mathlib.Core.Path.{refl}
-use Rattle.search.proofs.ClaimLaws.{no-heads}
+use Rattle.search.proofs.ClaimLaws.{lent-fresh, finishing}
 use native.Mathlib.Omega.{arith}
 use borrow.Author.Needs.{needs}
 use Rattle.search.proofs.search.search_large.Statement.{statement}
 use Rattle.search.proofs.search.search_large.Tie as tie
 
-slice-aggregate-search-with : tie.Need-slice-aggregate-search-with
-slice-aggregate-search-with c = search needs
+slice-aggregate-search-levels : tie.Need-slice-aggregate-search-levels
+slice-aggregate-search-levels c = search needs
 
-search-with-requires : tie.Need-search-with-requires
-search-with-requires c κs =
-    let lent = c .before .before .before .before .before .pre in
-    (lent, no-heads {n = 262144} refl (omega arith))
+slice-aggregate-search-levels-2 : tie.Need-slice-aggregate-search-levels-2
+slice-aggregate-search-levels-2 c = search needs
+
+search-levels-requires : tie.Need-search-levels-requires
+search-levels-requires c κs = lent-fresh {n = 262144} (c .before .before .before .before .before .pre) refl (omega arith) refl
+
+slice-aggregate-finish : tie.Need-slice-aggregate-finish
+slice-aggregate-finish c = search needs
+
+finish-requires : tie.Need-finish-requires
+finish-requires c κs =
+    let levels = c .before .before .before .before .before .before .before .search-levels in
+    finishing (c .before .before .before .before .before .before .before .before .before .before .before .before .before .pre) (levels .kept .1 .1 .1 .0) (levels .kept .1 .0) (levels .ensures)
 
 same-length : tie.Need-same-length
 same-length c = search needs
@@ -21,9 +30,20 @@ same-length-2 : tie.Need-same-length-2
 same-length-2 c = search needs
 
 returns : tie.Need-returns
-returns c = search needs
+returns c =
+    let start = c .before .before .before .before .before .before .before .before .before .before .before .before .before .before .before .before .before .before in
+    let levels = c .before .before .before .before .before .before .before .before .before .before .before .before .search-levels in
+    c .before .before .before .before .finish .ensures .found (start .args .t) (start .args .work .now) (start .pre .valid) (levels .kept .1 .0) (levels .ensures)
 
 pub search-large-spec : {M : Type 1} → statement M
 search-large-spec =
     tie.close
-    (tie.spec slice-aggregate-search-with search-with-requires same-length same-length-2 returns)
+    (tie.spec
+    slice-aggregate-search-levels
+    slice-aggregate-search-levels-2
+    search-levels-requires
+    slice-aggregate-finish
+    finish-requires
+    same-length
+    same-length-2
+    returns)

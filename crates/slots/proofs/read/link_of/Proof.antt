@@ -1,6 +1,5 @@
 -- The low twenty bits of the word. Assumes nothing.
 use Rattle.slots.specs.Running.{linkAt}
-use native.Mathlib.Omega.{arith}
 use borrow.Author.Needs.{needs}
 use Rattle.slots.proofs.read.link_of.Statement.{statement}
 use Rattle.slots.proofs.read.link_of.Tie as tie

@@ -1,6 +1,5 @@
 -- By computation. Assumes nothing.
 use Rattle.slots.specs.Layout.{maskAt}
-use native.Mathlib.Omega.{arith}
 use borrow.Author.Needs.{needs}
 use Rattle.slots.proofs.read.mask_of.Statement.{statement}
 use Rattle.slots.proofs.read.mask_of.Tie as tie

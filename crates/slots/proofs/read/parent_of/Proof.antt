@@ -1,6 +1,5 @@
 -- By what the four bytes are. Assumes nothing.
 use Rattle.slots.specs.Layout.{parentAt}
-use native.Mathlib.Omega.{arith}
 use borrow.Author.Needs.{needs}
 use Rattle.slots.proofs.read.parent_of.Statement.{statement}
 use Rattle.slots.proofs.read.parent_of.Tie as tie

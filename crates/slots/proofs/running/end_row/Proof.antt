@@ -1,7 +1,6 @@
 -- Whether it is the last slot of its block. Assumes nothing.
 use borrow.Author.Tests.{eq-eqb, ne-eqb}
 use Rattle.slots.specs.Running.{endsAfter}
-use native.Mathlib.Omega.{arith}
 use borrow.Author.Needs.{needs}
 use Rattle.slots.proofs.running.end_row.Statement.{statement}
 use Rattle.slots.proofs.running.end_row.Tie as tie

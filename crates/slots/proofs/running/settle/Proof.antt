@@ -1,64 +1,75 @@
--- The invariant: the first i slots have their parents, and the blocks before b have ended. Assumes nothing.
-use Prim.Native.Nat.{_+_, _-_, _*_, _/_, _<_, _≤_}
-use mathlib.Core.Path.{_≡_, refl}
+-- The invariant: the first slots have their parents, and where some are left the blocks before b have ended. Assumes nothing.
+use Prim.Native.Nat.{ℕ, _+_, _-_, _<_, _≤_}
+use mathlib.Core.Path.{_≡_, refl, _∙_}
+use mathlib.Core.List.{List}
 use lib.ListN.{length, getD}
-use Rattle.slots.specs.Running.{Ended}
-use Rattle.slots.proofs.RunningLaws.{ended-more, Settling, settling-start, settling-next, settling-end}
+use Rattle.slots.specs.Running.{Ended, Settling}
+use Rattle.slots.proofs.RunningLaws.{block-is, ended-more, ended-next, ended-low, settling-start, settling-end}
 use native.Mathlib.Omega.{arith}
 use borrow.Author.Needs.{needs}
 use Rattle.slots.proofs.running.settle.Statement.{statement}
 use Rattle.slots.proofs.running.settle.Tie as tie
 
 abbrev Inv-loop : tie.InvT-loop
-Inv-loop work₀ ends k n b₀ i₀ work b i = (i ≤ n) × (b < 245) × (length work ≡ length work₀) × Ended ends b i × Settling k ends work₀ work i
+Inv-loop work₀ ends k n b₀ from₀ work b from = (from ≤ n) × (length work ≡ length work₀) × (from < n → Ended ends b from) × Settling k ends work₀ work from
 
 abbrev μ-loop : tie.MeasureT-loop
-μ-loop work₀ ends k n b₀ i₀ work b i = n - i
+μ-loop work₀ ends k n b₀ from₀ work b from = 245 - b
+
+-- where slots are left, some block has not ended
+low : (l : tie.At-loop Inv-loop μ-loop) → l .loop .from < l .before .before .before .args .n → l .loop .b < 245
+low l h = let r = l .before .before .before .pre in ended-low (r .3) (l .loop .inv .2 h) h
 
 loop-holds : tie.Need-loop-holds Inv-loop μ-loop
-loop-holds c = (omega arith, omega arith, refl, record { past = λ b h. absurd (omega arith) }, settling-start)
+loop-holds c = (omega arith, refl, λ h. record { past = λ b l. absurd (omega arith) }, settling-start)
 
-block-from-requires : tie.Need-block-from-requires Inv-loop μ-loop
-block-from-requires c κs =
+end-within-requires : tie.Need-end-within-requires Inv-loop μ-loop
+end-within-requires c κs =
     let r = c .before .before .before .before .pre in
-    let x = c .before .loop .inv in
-    let h = c .loop-test .taken in
-    (x .1, r .2, omega arith, x .3)
+    omega (arith, r .2, low (c .before) (c .loop-test .taken))
 
-settle-slot-requires : tie.Need-settle-slot-requires Inv-loop μ-loop
-settle-slot-requires c κs =
+settle-block-requires : tie.Need-settle-block-requires Inv-loop μ-loop
+settle-block-requires c κs =
     let r = c .before .before .before .before .before .before .pre in
-    let x = c .before .before .before .loop .inv in
-    let h = c .before .before .loop-test .taken in
-    (omega arith, omega arith, c .before .block-from .ensures .1)
+    let l = c .before .before .before in
+    let end = c .before .end-within .ensures in
+    (omega (arith, end .1, r .0), omega (arith, r .1, l .loop .inv .1), low l (c .before .before .loop-test .taken))
 
-add-i : tie.Need-add-i Inv-loop μ-loop
-add-i c = search needs
+add-b : tie.Need-add-b Inv-loop μ-loop
+add-b c = omega (arith, low (c .before .before .before .before .before .before) (c .before .before .before .before .before .loop-test .taken))
 
 loop-less : tie.Need-loop-less Inv-loop μ-loop
-loop-less c = search needs
+loop-less c = omega (arith, low (c .before .before .before .before .before .before) (c .before .before .before .before .before .loop-test .taken))
 
 loop-again : tie.Need-loop-again Inv-loop μ-loop
 loop-again c =
-    let r = c .before .before .before .before .before .before .before .before .before .pre in
-    let x = c .before .before .before .before .before .before .loop .inv in
+    let l = c .before .before .before .before .before .before in
+    let start = c .before .before .before .before .before .before .before .before .before in
+    let ends = start .args .ends .now in
     let h = c .before .before .before .before .before .loop-test .taken in
-    let block = c .before .before .before .before .block-from .ensures in
-    let slot = c .before .before .settle-slot .ensures in
-    let e = slot .1 in
-    let next = settling-next (x .4) (omega arith) (omega arith) (block .0) (block .1) (slot .0) in
-    (omega arith, block .1, rw e (next .len), ended-more (omega arith) (block .2), rw e next)
+    let few = low l h in
+    let ended = l .loop .inv .2 h in
+    let end = c .before .before .before .before .end-within .ensures in
+    let block = c .before .before .settle-block in
+    let y = block .ensures in (
+      y .most (start .args .n) (l .loop .inv .0) (end .1),
+      block .kept .0 ∙ l .loop .inv .1,
+      λ more. ended-next (ended-more (y .low) ended) (omega (arith, y .upto, end .2 (omega (arith, y .upto)))),
+      y .carries ends (start .args .work .now) (λ j. omega (arith, c .before .before .before .before .before .before .before .before .slice-known .given j))
+          (λ j from upto. block-is ends (l .loop .b) j (omega (arith, start .pre .2)) (ended-more from ended) (omega (arith, end .0)))
+          (l .loop .inv .3),
+    )
 
 same-length : tie.Need-same-length Inv-loop μ-loop
-same-length c = c .before .loop .inv .2
+same-length c = c .before .loop .inv .1
 
 returns : tie.Need-returns Inv-loop μ-loop
 returns c =
-    let r = c .before .before .before .before .pre in
+    let start = c .before .before .before .before in
     let x = c .before .loop .inv in
     let h = c .loop-test .left in
-    let e : c .before .loop .i ≡ c .before .before .before .before .args .n = omega arith in
-    settling-end (rw e at (x .4)) (r .0)
+    let e : c .before .loop .from ≡ start .args .n = omega (arith, x .0) in
+    settling-end (rw e at (x .3)) (start .pre .0)
 
 pub settle-spec : {M : Type 1} → statement M
 settle-spec =
@@ -67,9 +78,9 @@ settle-spec =
     Inv-loop
     μ-loop
     loop-holds
-    block-from-requires
-    settle-slot-requires
-    add-i
+    end-within-requires
+    settle-block-requires
+    add-b
     loop-less
     loop-again
     same-length

@@ -49,7 +49,7 @@ returns c =
     let word = c .before .before .before .before .parent-of in
     let parent = 4096 * a .b + word .result / 1048576 in
     let size = four-length parent in
-    (rw (← word .ensures) (omega (arith, word .ok)), rw (← word .ensures) (lent-sets (a .work .now) (16 * a .k + 4 * a .i) (fourBytes parent) _ (c .before .before .put-parent .ensures) (omega arith)))
+    rw (← word .ensures) (lent-sets (a .work .now) (16 * a .k + 4 * a .i) (fourBytes parent) _ (c .before .before .put-parent .ensures) (omega arith))
 
 pub settle-slot-spec : {M : Type 1} → statement M
 settle-slot-spec =

@@ -1,6 +1,5 @@
 -- By computation. Assumes nothing.
 use Rattle.slots.specs.Running.{wordOf}
-use native.Mathlib.Omega.{arith}
 use borrow.Author.Needs.{needs}
 use Rattle.slots.proofs.running.word_of.Statement.{statement}
 use Rattle.slots.proofs.running.word_of.Tie as tie
