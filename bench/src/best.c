@@ -105,37 +105,25 @@ static inline bool missed(__m128i s, const Vectors *v)
     return _mm_movemask_epi8(late) != 0;
 }
 
-static inline __m128i slot_state(const uint8_t *work, size_t slot)
-{
-    return _mm_loadu_si128((const __m128i *)(work + SLOT * slot));
-}
-
-static inline void put(uint8_t *at, __m128i s, uint32_t parent, unsigned mask)
-{
-    uint64_t rest = parent | (uint64_t)mask << 32;
-    _mm_storeu_si128((__m128i *)at, s);
-    memcpy(at + 16, &rest, 8);
-}
-
-/* A state in the table: 8 bytes made by gathering the bits that its numbers can have, or the 16 bytes as they are. No key is 0: the
-   top bit is set in the first, and a p is at most 200 in the second. */
+/* A state in the table: 8 bytes made by gathering the bits that its numbers can have, or the 16 bytes as they are; the low 8 are mixed by
+   steps that have a way back, so that they are the hash as well. No key is 0: the top bit is set before the mixing in the first, and a p
+   is at most 200 in the second. */
 typedef struct { uint64_t low, high; } Key;
 
 static inline Key key_of(__m128i s, const Vectors *v, bool small)
 {
     uint64_t low = (uint64_t)_mm_cvtsi128_si64(s), high = (uint64_t)_mm_extract_epi64(s, 1);
-    Key k = {low, ~high};
+    Key k = {low ^ ~high * 0x9E3779B97F4A7C15u, ~high};
     if (small) {
         k.low = _pext_u64(low, v->low) | _pext_u64(high, v->high) << v->low_bits | (uint64_t)1 << 63;
         k.high = 0;
     }
+    k.low *= 0xD6E8FEB86659FD93u;
     return k;
 }
 
-static inline uint64_t mixed(Key k, bool small)
-{
-    return small ? k.low * 0xD6E8FEB86659FD93u : (k.low ^ k.high * 0x9E3779B97F4A7C15u) * 0xD6E8FEB86659FD93u;
-}
+/* A key's place in a table of 2^bits, its top bits. */
+static inline size_t home(Key k, unsigned bits) { return k.low >> (64 - bits); }
 
 static inline Key key_at(const uint64_t *set, size_t at, bool small)
 {
@@ -151,7 +139,7 @@ static inline void set_key(uint64_t *set, size_t at, Key k, bool small)
 
 static inline bool no_key(Key k) { return (k.low | k.high) == 0; }
 
-/* The keys of `from` in a larger table. A place is a hash's top bits, so that both tables are walked in the same order. */
+/* The keys of `from` in a larger table. A home is a key's top bits, so that both tables are walked in the same order. */
 static void grow(uint64_t *to, unsigned bits, const uint64_t *from, unsigned from_bits, bool small)
 {
     size_t size = (size_t)1 << bits;
@@ -159,22 +147,22 @@ static void grow(uint64_t *to, unsigned bits, const uint64_t *from, unsigned fro
     for (size_t i = 0; i < (size_t)1 << from_bits; i++) {
         Key k = key_at(from, i, small);
         if (no_key(k)) continue;
-        size_t at = mixed(k, small) >> (64 - bits);
+        size_t at = home(k, bits);
         while (!no_key(key_at(to, at, small))) at = (at + 1) & (size - 1);
         set_key(to, at, k, small);
     }
 }
 
 static inline __attribute__((always_inline)) uint64_t
-search(const Vectors *v, uint8_t *work, size_t slots, uint8_t *trace, int policy, bool small)
+search(const Vectors *v, Columns w, uint8_t *trace, int policy, bool small)
 {
-    struct { __m128i state; Key key; uint64_t hash; uint32_t parent, mask; } ring[BEHIND];
+    struct { __m128i state; Key key; uint32_t parent, mask; } ring[BEHIND];
     unsigned bits = FEWEST;
     uint64_t *set = spaces[0], *other = spaces[1];
     memset(set, 0, (size_t)(small ? 8 : 16) << bits);
-    put(work, _mm_setzero_si128(), 0, 0);
+    put(w, 0, _mm_setzero_si128(), 0, 0);
     Key start = key_of(_mm_setzero_si128(), v, small);
-    set_key(set, mixed(start, small) >> (64 - bits), start, small);
+    set_key(set, home(start, bits), start, small);
     size_t n = 1, bad = MOST_SLOTS;
     {
         Ordered o = ordered(_mm_setzero_si128(), v, policy);
@@ -183,43 +171,41 @@ search(const Vectors *v, uint8_t *work, size_t slots, uint8_t *trace, int policy
     for (size_t first = 0, level = 0;; level++) {
         size_t last = n;
         if (bad < last) {
-            Ordered o = ordered(slot_state(work, bad), v, policy);
-            write_trace(work, trace, level + 1, bad, (uint8_t)mask_of(&o, o.free));
+            Ordered o = ordered(slot_state(w, bad), v, policy);
+            write_trace(w, trace, level + 1, bad, (uint8_t)mask_of(&o, o.free));
             return packed(2, level + 1, n);
         }
         size_t made = 0, done = 0, i = first;
         bool more = true;
-        Ordered o = ordered(slot_state(work, i), v, policy);
+        Ordered o = ordered(slot_state(w, i), v, policy);
         unsigned places = 0;
         while (more || done < made) {
             if (more) {
                 __m128i after = tick(&o, v, places);
                 Key key = key_of(after, v, small);
-                uint64_t hash = mixed(key, small);
-                _mm_prefetch((const char *)&set[(hash >> (64 - bits)) * (small ? 1 : 2)], _MM_HINT_T0);
+                _mm_prefetch((const char *)&set[home(key, bits) * (small ? 1 : 2)], _MM_HINT_T0);
                 size_t at = made++ % BEHIND;
                 ring[at].state = after;
                 ring[at].key = key;
-                ring[at].hash = hash;
                 ring[at].parent = (uint32_t)i;
                 ring[at].mask = mask_of(&o, places);
                 places = (places - o.free) & o.free;
                 if (places == 0) {
                     more = ++i < last;
-                    if (more) o = ordered(slot_state(work, i), v, policy);
+                    if (more) o = ordered(slot_state(w, i), v, policy);
                 }
                 if (made - done < BEHIND && more) continue;
             }
             size_t from = done++ % BEHIND;
             Key key = ring[from].key;
-            size_t at = ring[from].hash >> (64 - bits);
+            size_t at = home(key, bits);
             for (;; at = (at + 1) & (((size_t)1 << bits) - 1)) {
                 Key entry = key_at(set, at, small);
                 if (entry.low == key.low && entry.high == key.high) break;
                 if (no_key(entry)) {
-                    if (n == slots) return packed(3, 0, n);
+                    if (n == w.slots) return packed(3, 0, n);
                     set_key(set, at, key, small);
-                    put(work + SLOT * n, ring[from].state, ring[from].parent, ring[from].mask);
+                    put(w, n, ring[from].state, ring[from].parent, ring[from].mask);
                     if (bad == MOST_SLOTS) {
                         Ordered next = ordered(ring[from].state, v, policy);
                         if (missed(tick(&next, v, next.free), v)) bad = n;
@@ -263,11 +249,9 @@ uint64_t best_verdict(const uint8_t *sheet, size_t sheet_len, uint8_t *work, siz
                       size_t trace_len)
 {
     Table t;
-    int refusal = read_sheet(sheet, sheet_len, &t);
+    Columns w = columns_of(work, work_len);
+    int refusal = refusal_of(sheet, sheet_len, &t, w, trace_len);
     if (refusal) return packed(0, 0, (uint64_t)refusal);
-    size_t slots = work_len / SLOT < MOST_SLOTS ? work_len / SLOT : MOST_SLOTS;
-    if (slots == 0) return packed(0, 0, 9);
-    if (trace_len < slots) return packed(0, 0, 10);
     for (int k = 0; k < 2; k++)
         if (!spaces[k] && !(spaces[k] = huge((size_t)16 << MOST))) return 0;
 
@@ -296,17 +280,17 @@ uint64_t best_verdict(const uint8_t *sheet, size_t sheet_len, uint8_t *work, siz
     }
     v.low_bits = (unsigned)_mm_popcnt_u64(v.low);
     bool small = v.low_bits + _mm_popcnt_u64(v.high) < 64 && v.low_bits < 64;
-    if (far) return search(&v, work, slots, trace, FAR_LST, false);
+    if (far) return search(&v, w, trace, FAR_LST, false);
     switch (t.policy * 2 + small) {
-    case 0: return search(&v, work, slots, trace, NP_GFP, false);
-    case 1: return search(&v, work, slots, trace, NP_GFP, true);
-    case 2: return search(&v, work, slots, trace, P_GFP, false);
-    case 3: return search(&v, work, slots, trace, P_GFP, true);
-    case 4: return search(&v, work, slots, trace, NP_EDF, false);
-    case 5: return search(&v, work, slots, trace, NP_EDF, true);
-    case 6: return search(&v, work, slots, trace, P_EDF, false);
-    case 7: return search(&v, work, slots, trace, P_EDF, true);
-    case 8: return search(&v, work, slots, trace, P_LST, false);
-    default: return search(&v, work, slots, trace, P_LST, true);
+    case 0: return search(&v, w, trace, NP_GFP, false);
+    case 1: return search(&v, w, trace, NP_GFP, true);
+    case 2: return search(&v, w, trace, P_GFP, false);
+    case 3: return search(&v, w, trace, P_GFP, true);
+    case 4: return search(&v, w, trace, NP_EDF, false);
+    case 5: return search(&v, w, trace, NP_EDF, true);
+    case 6: return search(&v, w, trace, P_EDF, false);
+    case 7: return search(&v, w, trace, P_EDF, true);
+    case 8: return search(&v, w, trace, P_LST, false);
+    default: return search(&v, w, trace, P_LST, true);
     }
 }

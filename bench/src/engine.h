@@ -1,12 +1,13 @@
-/* What the engines of the benchmark share: the task table, its sheet, and the shape of the call. */
+/* What the engines of the benchmark share: the task table, its sheet, the shape of the call, and the columns of the work space. */
 #ifndef ENGINE_H
 #define ENGINE_H
 
 #include <stdbool.h>
 #include <stddef.h>
 #include <stdint.h>
+#include <string.h>
 
-enum { SLOT = 24, MOST_SLOTS = 1000000, HEADS = 262144 };
+enum { STATE = 16, SLOT = 21, MOST_SLOTS = 1000000, HEADS = 262144 }; /* STATE and SLOT: bytes of a state and of a slot */
 
 enum { NP_GFP, P_GFP, NP_EDF, P_EDF, P_LST }; /* the policies */
 
@@ -55,14 +56,45 @@ static inline uint64_t packed(uint64_t kind, uint64_t length, uint64_t count)
     return kind << 48 | length << 24 | count;
 }
 
+/* A work space (document 02, §6): K states, then K parents of 4 bytes, low byte first, then K masks of a byte. */
+typedef struct {
+    size_t slots; /* K */
+    uint8_t *states, *parents, *masks;
+} Columns;
+
+static inline Columns columns_of(uint8_t *work, size_t work_len)
+{
+    size_t k = work_len / SLOT < MOST_SLOTS ? work_len / SLOT : MOST_SLOTS;
+    Columns w = {k, work, work + STATE * k, work + (STATE + 4) * k};
+    return w;
+}
+
+/* 0, or the refusal of a call: 1 to 8 of the sheet's bytes, then 9 and 10 of the lent spaces. */
+static inline int refusal_of(const uint8_t *sheet, size_t sheet_len, Table *t, Columns w, size_t trace_len)
+{
+    int refusal = read_sheet(sheet, sheet_len, t);
+    if (refusal) return refusal;
+    if (w.slots == 0) return 9;
+    return trace_len < w.slots ? 10 : 0;
+}
+
+/* The word of a slot in the parents' column: its parent, at the latest when the call is over. */
+static inline uint32_t word_of(Columns w, size_t slot)
+{
+    uint32_t word;
+    memcpy(&word, w.parents + 4 * slot, 4);
+    return word;
+}
+
+static inline void set_word(Columns w, size_t slot, uint32_t word) { memcpy(w.parents + 4 * slot, &word, 4); }
+
 /* The masks on the way to `slot`, then `mask`: `length` bytes. */
-static inline void write_trace(const uint8_t *work, uint8_t *trace, size_t length, size_t slot, uint8_t mask)
+static inline void write_trace(Columns w, uint8_t *trace, size_t length, size_t slot, uint8_t mask)
 {
     while (length-- > 0) {
-        const uint8_t *at = work + SLOT * slot;
         trace[length] = mask;
-        mask = at[20];
-        slot = at[16] | (size_t)at[17] << 8 | (size_t)at[18] << 16 | (size_t)at[19] << 24;
+        mask = w.masks[slot];
+        slot = word_of(w, slot);
     }
 }
 

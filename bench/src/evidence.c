@@ -1,7 +1,8 @@
-/* Times the check of a Safe search's file beside the search: evidence ROUNDS HEX. The library searches the sheet, copies the
-   states out, and judges the file in the search's order and shuffled. In each round the three are called in turn, each until a
-   fixed share of time has passed, each round from the next one on; printed is, for each, the processor time of a call in its
-   fastest round, in nanoseconds. Under another verdict nothing is timed. An unexpected answer ends the program. */
+/* Times the check of a Safe search's file beside the search: evidence ROUNDS HEX. The library searches the sheet; the written states,
+   which stand at the front of the work space, are the file, judged in the search's order and shuffled. In each round the three are
+   called in turn, each until a fixed share of time has passed, each round from the next one on; printed is, for each, the processor
+   time of a call in its fastest round, in nanoseconds. Under another verdict nothing is timed. An unexpected answer ends the
+   program. */
 #include "timing.h"
 
 #include "../../include/ronchhek.h"
@@ -49,9 +50,7 @@ static void make_files(void)
 {
     for (int what = CHECK; what < TIMED; what++) {
         size_t len = RONCHHEK_STATE_BYTES * count;
-        files[what] = space(len);
-        uint64_t copied = ronchhek_states(work, SLOT * MOST_SLOTS, count, files[what], len);
-        if (RONCHHEK_KIND(copied) != RONCHHEK_DONE || RONCHHEK_COUNT(copied) != len) fail("evidence", "states not copied");
+        files[what] = memcpy(space(len), work, len);
         if (what == SHUFFLED) shuffle(files[what]);
         call(what, count, RONCHHEK_ACCEPTED);
         if (count > 1) call(what, count - 1, RONCHHEK_NO);

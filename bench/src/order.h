@@ -1,4 +1,5 @@
-/* What the vector engines share: for each task a key of 16 bits, whose smaller goes first, and the ranks of eight keys. A key is
+/* What the vector engines share: slots with their states as vectors; for each task a key of 16 bits, whose smaller goes first, and the
+   ranks of eight keys. A key is
      GFP  the task's number
      EDF  8 d + its turn among equal d
      LST  8 (64 slack + 63 - age) + its number while every D is at most 64, so that slack and age are below 64
@@ -10,6 +11,18 @@
 #include "engine.h"
 
 #include <immintrin.h>
+
+static inline __m128i slot_state(Columns w, size_t slot)
+{
+    return _mm_loadu_si128((const __m128i *)(w.states + STATE * slot));
+}
+
+static inline void put(Columns w, size_t slot, __m128i s, uint32_t parent, unsigned mask)
+{
+    _mm_storeu_si128((__m128i *)(w.states + STATE * slot), s);
+    set_word(w, slot, parent);
+    w.masks[slot] = (uint8_t)mask;
+}
 
 enum { NEAR = 64 };
 

@@ -4,7 +4,7 @@
    in turn with them, and is held against the plain tick that BEFORE names, by_age or by_number. */
 #include "timing.h"
 
-enum { TASKS = 5, CORES = 3, TICKS = 200000, ROUNDS = 25, FRONTS = 1000, STATE = 16, TOTALS = 192 };
+enum { TASKS = 5, CORES = 3, TICKS = 200000, ROUNDS = 25, FRONTS = 1000, TOTALS = 192 };
 
 typedef uint64_t Replay(const uint8_t *sheet, size_t sheet_len, const uint8_t *list, size_t list_len, uint8_t *state, size_t state_len);
 Replay ronchhek_replay, ronchhek_service, before_replay;
@@ -13,20 +13,20 @@ Replay ronchhek_replay, ronchhek_service, before_replay;
 static uint64_t replay_by(const Counted *like, const uint8_t *sheet, size_t sheet_len, const uint8_t *list, size_t list_len, uint8_t *state)
 {
     Table t;
-    uint8_t from[16] = {0};
+    uint8_t from[STATE] = {0};
     if (read_sheet(sheet, sheet_len, &t)) fail("replay", "sheet refused");
     for (uint64_t k = 0; k < list_len; k++) {
         int came = like->step(&t, from, list[k], state);
         if (came == 2) return 11ull << 48 | (k + 1);
         if (came == 1) return 2ull << 56 | (k + 1);
-        memcpy(from, state, 16);
+        memcpy(from, state, STATE);
     }
     return 1ull << 56;
 }
 
 static uint64_t plain_replay(const uint8_t *sheet, size_t sheet_len, const uint8_t *list, size_t list_len, uint8_t *state, size_t state_len)
 {
-    return state_len < 16 ? 12ull << 48 : replay_by(&by_age, sheet, sheet_len, list, list_len, state);
+    return state_len < STATE ? 12ull << 48 : replay_by(&by_age, sheet, sheet_len, list, list_len, state);
 }
 
 /* Each with the plain tick that it must agree with, and with what it writes: the state or the totals. */

@@ -85,25 +85,13 @@ static inline uint32_t mixed(__m128i s)
     return (uint32_t)((h ^ h >> 32) * 0x9E3779B97F4A7C15u >> 32);
 }
 
-static inline __m128i slot_state(const uint8_t *work, size_t slot)
-{
-    return _mm_loadu_si128((const __m128i *)(work + SLOT * slot));
-}
-
-static inline void put(uint8_t *at, __m128i s, uint32_t parent, unsigned mask)
-{
-    uint64_t rest = parent | (uint64_t)mask << 32;
-    _mm_storeu_si128((__m128i *)at, s);
-    memcpy(at + 16, &rest, 8);
-}
-
-static size_t grown(const uint8_t *work, size_t size, size_t n)
+static size_t grown(Columns w, size_t size, size_t n)
 {
     size *= 4;
     if (size > MOST) size = MOST;
     memset(index_space, 0, size * sizeof *index_space);
     for (size_t i = 0; i < n; i++) {
-        size_t at = mixed(slot_state(work, i)) & (size - 1);
+        size_t at = mixed(slot_state(w, i)) & (size - 1);
         while (index_space[at]) at = (at + 1) & (size - 1);
         index_space[at] = (uint32_t)i + 1;
     }
@@ -111,29 +99,29 @@ static size_t grown(const uint8_t *work, size_t size, size_t n)
 }
 
 static inline __attribute__((always_inline)) uint64_t
-search(const Vectors *v, uint8_t *work, size_t slots, uint8_t *trace, bool far)
+search(const Vectors *v, Columns w, uint8_t *trace, bool far)
 {
     const __m128i low = _mm_set1_epi16(0xFF);
     struct { __m128i state; uint32_t hash, parent, mask; } ring[BEHIND];
     size_t size = FEWEST / 4;
-    put(work, _mm_setzero_si128(), 0, 0);
-    size = grown(work, size, 1);
+    put(w, 0, _mm_setzero_si128(), 0, 0);
+    size = grown(w, size, 1);
     size_t n = 1;
     for (size_t first = 0, level = 0;; level++) {
         size_t last = n;
         for (size_t i = first; i < last; i++) {
-            __m128i s = slot_state(work, i), c = _mm_and_si128(s, low), p = _mm_srli_epi16(s, 8);
+            __m128i s = slot_state(w, i), c = _mm_and_si128(s, low), p = _mm_srli_epi16(s, 8);
             unsigned free = releasable(p, v);
             if (!missed(tick(c, p, v, free, far), v)) continue;
             for (unsigned mask = 0;; mask = (mask - free) & free)
                 if (missed(tick(c, p, v, mask, far), v)) {
-                    write_trace(work, trace, level + 1, i, (uint8_t)mask);
+                    write_trace(w, trace, level + 1, i, (uint8_t)mask);
                     return packed(2, level + 1, n);
                 }
         }
         size_t made = 0, done = 0, i = first;
         bool more = i < last;
-        __m128i s = slot_state(work, i), c = _mm_and_si128(s, low), p = _mm_srli_epi16(s, 8);
+        __m128i s = slot_state(w, i), c = _mm_and_si128(s, low), p = _mm_srli_epi16(s, 8);
         unsigned free = releasable(p, v), mask = 0;
         while (more || done < made) {
             if (more) {
@@ -148,7 +136,7 @@ search(const Vectors *v, uint8_t *work, size_t slots, uint8_t *trace, bool far)
                 mask = (mask - free) & free;
                 if (mask == 0) {
                     more = ++i < last;
-                    s = slot_state(work, more ? i : 0);
+                    s = slot_state(w, more ? i : 0);
                     c = _mm_and_si128(s, low);
                     p = _mm_srli_epi16(s, 8);
                     free = releasable(p, v);
@@ -161,13 +149,13 @@ search(const Vectors *v, uint8_t *work, size_t slots, uint8_t *trace, bool far)
             for (;; at = (at + 1) & (size - 1)) {
                 uint32_t entry = index_space[at];
                 if (entry == 0) {
-                    if (n == slots) return packed(3, 0, n);
-                    put(work + SLOT * n, seek, ring[from].parent, ring[from].mask);
+                    if (n == w.slots) return packed(3, 0, n);
+                    put(w, n, seek, ring[from].parent, ring[from].mask);
                     index_space[at] = (uint32_t)++n;
-                    if (2 * n > size && size < MOST) size = grown(work, size, n);
+                    if (2 * n > size && size < MOST) size = grown(w, size, n);
                     break;
                 }
-                __m128i same = _mm_cmpeq_epi8(slot_state(work, entry - 1), seek);
+                __m128i same = _mm_cmpeq_epi8(slot_state(w, entry - 1), seek);
                 if (_mm_movemask_epi8(same) == 0xFFFF) break;
             }
         }
@@ -180,14 +168,12 @@ uint64_t simd_verdict(const uint8_t *sheet, size_t sheet_len, uint8_t *work, siz
                       size_t trace_len)
 {
     Table t;
-    int refusal = read_sheet(sheet, sheet_len, &t);
+    Columns w = columns_of(work, work_len);
+    int refusal = refusal_of(sheet, sheet_len, &t, w, trace_len);
     if (refusal) return packed(0, 0, (uint64_t)refusal);
-    size_t slots = work_len / SLOT < MOST_SLOTS ? work_len / SLOT : MOST_SLOTS;
-    if (slots == 0) return packed(0, 0, 9);
-    if (trace_len < slots) return packed(0, 0, 10);
     for (int m = 0; m < 256; m++)
         for (int i = 0; i < 8; i++) lanes_of[m][i] = m >> i & 1 ? 0xFFFF : 0;
     bool far = is_far(&t);
     const Vectors v = vectors_of(&t, far);
-    return far ? search(&v, work, slots, trace, true) : search(&v, work, slots, trace, false);
+    return far ? search(&v, w, trace, true) : search(&v, w, trace, false);
 }

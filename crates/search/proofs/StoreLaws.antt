@@ -1,5 +1,5 @@
 -- The laws of storing: a mask of a slot, a row of masks, a level of rows. Assumes nothing.
-use Prim.Native.Nat.{ℕ, _+_, _≤_, _<_}
+use Prim.Native.Nat.{ℕ, _+_, _-_, _*_, _/_, _≤_, _<_}
 use mathlib.Core.Path.{_≡_, refl, sym, _∙_}
 use mathlib.Core.Bool.{true, false}
 use mathlib.Core.Logic.{_⊎_, ⊎-elim}
@@ -30,9 +30,9 @@ use Rattle.states.specs.System.{step, system}
 use Rattle.states.specs.Masks.{follows}
 use Rattle.slots.specs.Running.{endsAfter, Marked}
 use Rattle.slots.proofs.LayoutLaws.{stays-none, stays-join}
-use Rattle.slots.proofs.RunningLaws.{marked-more, marked-after, marked-last, parent-now, parent-same, parents-after}
+use Rattle.slots.proofs.RunningLaws.{marked-more, marked-same, marked-after, marked-last, parent-now, parent-same, parents-after}
 use Rattle.search.specs.Indexed.{Indexed}
-use Rattle.search.specs.Keeping.{FillingIn, Level, Known, Added, Crowded, Kept, Carries, RowReady, RowDone, RowFull, LevelDone, LevelFull}
+use Rattle.search.specs.Keeping.{FillingIn, Level, Known, Added, Crowded, Kept, Carries, RowReady, RowDone, RowFull, BlockReady, BlockDone, BlockFull, LevelDone, LevelFull}
 use Rattle.states.proofs.MaskTest.{submask}
 use Rattle.states.proofs.MaskLaws.{next-submask, no-bits, passed}
 use Rattle.states.proofs.SystemLaws.{step-missed, step-next, legal-or-refused}
@@ -210,6 +210,65 @@ pub record RowBy (t : Table) (ticker : Ticker) (state : Prepared) (K : ℕ) (w w
   pub ticks : (mask : ℕ) → stateOf (tickedBy ticker state mask) ≡ after t (stateIn w i) mask
   pub row : RowTo t K w w′ heads′ (stateIn w i) n n′ i free m
 
+-- ---- a block
+
+-- a block on the way: the rows from lo to i - 1 are done
+pub record BlockTo (t : Table) (K : ℕ) (w w′ heads′ : List ℕ) (n n′ lo hi i : ℕ) : Type 0 where
+  pub from : lo ≤ i
+  pub upto : i ≤ hi
+  pub kept : Kept K w w′ n n′
+  pub indexed : Indexed K w′ heads′ n′
+  pub advances :
+      (ends : List ℕ) → Marked ends lo n → (first last d : ℕ) → first ≤ lo → hi ≤ last
+      → FillingIn t K ends w first last n d (Before lo) → FillingIn t K ends w′ first last n′ d (Before i)
+
+module _ {t : Table} {K : ℕ} {w heads : List ℕ} {n lo hi : ℕ} (ready : BlockReady t K w heads n lo hi) where
+  pub block-start : BlockTo t K w w heads n n lo hi lo
+  block-start = record { from = omega arith; upto = ready .order; kept = kept-none; indexed = ready .indexed; advances = λ ends marked first last d l h x. x }
+
+  module _ {w₁ heads₁ : List ℕ} {n₁ i : ℕ} (x : BlockTo t K w w₁ heads₁ n n₁ lo hi i) where
+    module _ (h : i < hi) where
+      pub block-ready : RowReady t K w₁ heads₁ n₁ i
+      block-ready =
+          let o = x .kept .order in
+          let b = ready .below in
+          record {
+            valid = ready .valid;
+            indexed = x .indexed;
+            below = omega arith;
+            proper = rw (x .kept .states i (omega arith)) (ready .proper i h);
+          }
+
+      -- the ends are those for slot i too
+      here : {ends : List ℕ} → Marked ends lo n → Marked ends i n₁
+      here marked = marked-more (marked-same marked (x .from) (let b = ready .block in omega arith)) (x .kept .order)
+
+      pub block-row : {w₂ heads₂ : List ℕ} {n₂ : ℕ} → RowDone t K w₁ w₂ heads₂ n₁ n₂ i → BlockTo t K w w₂ heads₂ n n₂ lo hi (i + 1)
+      block-row y =
+          record {
+            from = (let a = x .from in omega arith);
+            upto = omega arith;
+            kept = (let q = kept-join (x .kept) (y .kept) in q);
+            indexed = y .indexed;
+            advances = λ ends marked first last d l r z.
+                rw add-one
+                (y .carries ends (here marked) first last d (let a = x .from in omega arith) (omega arith) (x .advances ends marked first last d l r z));
+          }
+
+      pub block-full : {w₂ : List ℕ} → RowFull t K w₁ w₂ n₁ i → BlockFull t K w w₂ n lo hi
+      block-full y =
+          record {
+            len = y .len ∙ x .kept .len;
+            rest = stays-join (x .indexed .room) (x .kept .rest) (y .rest);
+            overfull = λ ends marked first last d l r z.
+                y .overfull ends (here marked) first last d (let a = x .from in omega arith) (omega arith) (x .advances ends marked first last d l r z);
+          }
+
+    pub block-end : hi ≤ i → BlockDone t K w w₁ heads₁ n n₁ lo hi
+    block-end h =
+        let e : i ≡ hi = (let a = x .upto in omega arith) in
+        record { kept = x .kept; indexed = x .indexed; advances = λ ends marked first last d l r z. rw e at (x .advances ends marked first last d l r z) }
+
 -- ---- a level
 
 -- a level on the way: the rows from lo to i - 1 are done
@@ -225,42 +284,45 @@ pub level-start : {t : Table} {K : ℕ} {ends w heads : List ℕ} {lo hi : ℕ} 
 level-start h indexed marked = record { from = omega arith; upto = h; kept = kept-none; indexed = indexed; marked = marked; filled = λ d x. x }
 
 module _ {t : Table} {K : ℕ} {ends ends₁ w w₁ heads₁ : List ℕ} {lo hi n i : ℕ} (x : LevelTo t K ends ends₁ w w₁ heads₁ lo hi n i) where
-  pub level-ready : Level t w hi → i < hi → RowReady t K w₁ heads₁ n i
-  level-ready level h =
-      record {
-        valid = level .valid;
-        indexed = x .indexed;
-        below = (let a = x .kept .order in omega arith);
-        proper = rw (x .kept .states i h) (level .proper i h);
-      }
+  -- the slots of a level are among a million
+  pub level-low : hi ≤ 1000000
+  level-low = let a = x .kept .order in let b = x .indexed .room in let c = x .indexed .few in omega arith
 
-  module _ (h : i < hi) where
-    -- a slot of the level is one of a million
-    pub level-low : i < 1000000
-    level-low = let a = x .kept .order in let b = x .indexed .room in let c = x .indexed .few in omega arith
-
-    pub level-row : {w₂ heads₂ : List ℕ} {n₂ : ℕ} → RowDone t K w₁ w₂ heads₂ n n₂ i → LevelTo t K ends (endsAfter ends₁ i n₂) w w₂ heads₂ lo hi n₂ (i + 1)
-    level-row {w₂} {heads₂} {n₂} y =
-        let more : Marked ends₁ i n₂ = marked-more (x .marked) (y .kept .order) in
+  module _ {to : ℕ} (up : i < to) (most : to ≤ hi) (block : to ≤ 4096 * (i / 4096 + 1)) where
+    pub level-ready : Level t w hi → BlockReady t K w₁ heads₁ n i to
+    level-ready level =
         record {
-          from = (let a = x .from in omega arith);
-          upto = omega arith;
-          kept = (let q = kept-join (x .kept) (y .kept) in q);
-          indexed = y .indexed;
-          marked = marked-after more level-low;
-          filled = λ d z.
-              rw add-one
-              (filling-parents (system t) (y .carries ends₁ (x .marked) lo hi d (x .from) h (x .filled d z))
-              (parents-after more level-low (let a = y .indexed .room in let c = y .indexed .few in omega arith) K w₂));
+          valid = level .valid;
+          indexed = x .indexed;
+          order = omega arith;
+          below = (let a = x .kept .order in omega arith);
+          block = block;
+          proper = λ j h. rw (x .kept .states j (omega arith)) (level .proper j (omega arith));
         }
 
-    pub level-full : {w₂ : List ℕ} → RowFull t K w₁ w₂ n i → LevelFull t K ends ends₁ w w₂ lo hi
+    pub level-block : {w₂ heads₂ : List ℕ} {n₂ : ℕ} → BlockDone t K w₁ w₂ heads₂ n n₂ i to → LevelTo t K ends (endsAfter ends₁ (to - 1) n₂) w w₂ heads₂ lo hi n₂ to
+    level-block {w₂} {heads₂} {n₂} y =
+        let more : Marked ends₁ (to - 1) n₂ = marked-more (marked-same (x .marked) (omega arith) (omega arith)) (y .kept .order) in
+        let low : to - 1 < 1000000 = (let l = level-low in omega arith) in
+        let e : to - 1 + 1 ≡ to = omega arith in
+        record {
+          from = (let a = x .from in omega arith);
+          upto = most;
+          kept = (let q = kept-join (x .kept) (y .kept) in q);
+          indexed = y .indexed;
+          marked = rw e at (marked-after more low);
+          filled = λ d z.
+              filling-parents (system t) (y .advances ends₁ (x .marked) lo hi d (x .from) most (x .filled d z))
+              (parents-after more low (let a = y .indexed .room in let c = y .indexed .few in omega arith) K w₂);
+        }
+
+    pub level-full : {w₂ : List ℕ} → BlockFull t K w₁ w₂ n i to → LevelFull t K ends ends₁ w w₂ lo hi
     level-full {w₂} y =
         record {
           len = y .len ∙ x .kept .len;
           rest = stays-join (x .indexed .room) (x .kept .rest) (y .rest);
           last = marked-last (x .marked) (let l = level-low in omega arith);
-          overfull = λ d z. y .overfull ends₁ (x .marked) lo hi d (x .from) h (x .filled d z);
+          overfull = λ d z. y .overfull ends₁ (x .marked) lo hi d (x .from) most (x .filled d z);
         }
 
   pub level-end : hi ≤ i → LevelDone t K ends ends₁ w w₁ heads₁ lo hi n

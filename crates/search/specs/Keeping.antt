@@ -3,7 +3,7 @@
 use mathlib.Core.Path.{_≡_}
 use mathlib.Core.Bool.{false}
 use mathlib.Core.List.{List, [], _∷_, _++_}
-use Prim.Native.Nat.{ℕ, suc, _+_, _*_, _≤_, _<_}
+use Prim.Native.Nat.{ℕ, suc, _+_, _*_, _/_, _≤_, _<_}
 use lib.ListN.{length, getD, drop}
 use Rattle.tasks.specs.Table.{tableFault}
 use Rattle.tasks.specs.State.{improper}
@@ -117,6 +117,38 @@ pub record RowFull (t : Table) (K : ℕ) (w w′ : List ℕ) (n i : ℕ) : Type 
 abbrev pub RowIs : Table → ℕ → List ℕ → List ℕ → List ℕ → ℕ → ℕ → Filled → Type 0
 RowIs t K w w′ heads′ n i (Filled.Upto n′) = RowDone t K w w′ heads′ n n′ i
 RowIs t K w w′ heads′ n i Filled.Full = RowFull t K w w′ n i
+
+-- what a block asks: n slots, those from lo to hi - 1 among them, with proper states and all of one block
+pub record BlockReady (t : Table) (K : ℕ) (w heads : List ℕ) (n lo hi : ℕ) : Type 0 where
+  pub valid : tableFault t ≡ 0
+  pub indexed : Indexed K w heads n
+  pub order : lo ≤ hi
+  pub below : hi ≤ n
+  pub block : hi ≤ 4096 * (lo / 4096 + 1)
+  pub proper : (i : ℕ) → i < hi → improper t (stateIn w i) ≡ false
+
+-- slots lo to hi - 1 of a level, whichever the level and the ends of the blocks before
+abbrev pub Advances : Table → ℕ → List ℕ → List ℕ → ℕ → ℕ → ℕ → ℕ → Type 0
+Advances t K w w′ n n′ lo hi =
+    (ends : List ℕ) → Marked ends lo n → (first last d : ℕ) → first ≤ lo → hi ≤ last
+    → FillingIn t K ends w first last n d (Before lo) → FillingIn t K ends w′ first last n′ d (Before hi)
+
+-- the block is done, or there was no room
+pub record BlockDone (t : Table) (K : ℕ) (w w′ heads′ : List ℕ) (n n′ lo hi : ℕ) : Type 0 where
+  pub kept : Kept K w w′ n n′
+  pub indexed : Indexed K w′ heads′ n′
+  pub advances : Advances t K w w′ n n′ lo hi
+
+pub record BlockFull (t : Table) (K : ℕ) (w w′ : List ℕ) (n lo hi : ℕ) : Type 0 where
+  pub len : length w′ ≡ length w
+  pub rest : Stays (columns K) K w w′
+  pub overfull :
+      (ends : List ℕ) → Marked ends lo n → (first last d : ℕ) → first ≤ lo → hi ≤ last → FillingIn t K ends w first last n d (Before lo)
+      → Overfull t K ends w′
+
+abbrev pub BlockIs : Table → ℕ → List ℕ → List ℕ → List ℕ → ℕ → ℕ → ℕ → Filled → Type 0
+BlockIs t K w w′ heads′ n lo hi (Filled.Upto n′) = BlockDone t K w w′ heads′ n n′ lo hi
+BlockIs t K w w′ heads′ n lo hi Filled.Full = BlockFull t K w w′ n lo hi
 
 -- the level is done, or there was no room; ends′ are the ends then
 pub record LevelDone (t : Table) (K : ℕ) (ends ends′ w w′ heads′ : List ℕ) (lo hi n : ℕ) : Type 0 where

@@ -5,10 +5,11 @@ ghost use Rattle.tasks.specs.Words.{stateOf};
 ghost use Rattle.tasks.specs.Ticker.{tickerOf, tickedBy};
 ghost use Rattle.slots.specs.Running.{Marked};
 ghost use Rattle.search.specs.Indexed.{Indexed};
-ghost use Rattle.search.specs.Keeping.{Level, Attempted, RowReady, RowIs, LevelIs};
+ghost use Rattle.search.specs.Keeping.{Level, Attempted, RowReady, RowIs, BlockReady, BlockIs, LevelIs};
 use crate::index::holds;
 use crate::index::push;
-use slots::end_row;
+use slots::block_upto;
+use slots::end_slot;
 use states::follow;
 use states::words_in;
 use tasks::Prepared;
@@ -88,7 +89,38 @@ fn store_row(
     Filled::Upto(n)
 }
 
-// Stores the successors of the slots from lo to hi - 1 that are new.
+// Stores the successors of the slots from lo to hi - 1, all of one block, that are new; `from` slots are filled before.
+fn store_block(
+    t: Table,
+    ticker: Ticker,
+    work: &mut [u8],
+    heads: &mut [u32],
+    k: usize,
+    from: usize,
+    lo: usize,
+    hi: usize,
+) -> Filled
+    requires { ⌜ (ticker ≡ tickerOf t) × BlockReady t k (now work) (now heads) from lo hi ⌝ }
+    ensures { λ r. ⌜ BlockIs t k (now (work .entry)) (now (work .exit)) (now (heads .exit)) from lo hi r ⌝ }
+{
+    let mut n = from;
+    let mut i = lo;
+    while i < hi {
+        let row = store_row(t, ticker, work, heads, k, n, i);
+        match row {
+            Filled::Upto(more) => {
+                n = more;
+            }
+            Filled::Full => {
+                return Filled::Full;
+            }
+        }
+        i += 1;
+    }
+    Filled::Upto(n)
+}
+
+// Stores the successors of the slots from lo to hi - 1 that are new, block by block: the loop over slots then asks for nothing but their masks.
 pub(crate) fn store_level(
     t: Table,
     ticker: Ticker,
@@ -105,8 +137,9 @@ pub(crate) fn store_level(
     let mut n = hi;
     let mut i = lo;
     while i < hi {
-        let row = store_row(t, ticker, work, heads, k, n, i);
-        match row {
+        let to = block_upto(i, hi);
+        let block = store_block(t, ticker, work, heads, k, n, i, to);
+        match block {
             Filled::Upto(more) => {
                 n = more;
             }
@@ -114,8 +147,8 @@ pub(crate) fn store_level(
                 return Filled::Full;
             }
         }
-        end_row(ends, i, n);
-        i += 1;
+        end_slot(ends, to - 1, n);
+        i = to;
     }
     Filled::Upto(n)
 }

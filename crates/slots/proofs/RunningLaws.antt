@@ -115,6 +115,12 @@ pub marked-start : {ends : List ℕ} {n : ℕ} → length ends ≡ 245 → ((b :
 marked-start len all = record { len = len; ended = record { past = λ b l. absurd (omega arith) }; unset = λ b l h. all b h }
 
 module _ {ends : List ℕ} {i n : ℕ} (x : Marked ends i n) where
+  -- another slot of the same block
+  pub marked-same : {j : ℕ} → i ≤ j → j < 4096 * (i / 4096 + 1) → Marked ends j n
+  marked-same {j} h l =
+      let e : j / 4096 ≡ i / 4096 = (let d = div-add-mod' i 4096 in omega arith) in
+      record { len = x .len; ended = rw e (x .ended); unset = λ b k. x .unset b (omega arith) }
+
   -- more slots are filled
   pub marked-more : {m : ℕ} → n ≤ m → Marked ends i m
   marked-more h = record { len = x .len; ended = ended-more h (x .ended); unset = x .unset }

@@ -16,8 +16,17 @@ pub fn word_of(parent: usize, link: u32) -> u32
     link + 1048576 * ((parent % 4096) as u32)
 }
 
+// Where the slots from i on of its block end, or hi where that is before.
+pub fn block_upto(i: usize, hi: usize) -> usize
+    requires { ⌜ (i < hi) × (hi ≤ 1000000) ⌝ }
+    ensures { λ r. ⌜ (i < r) × (r ≤ hi) × (r ≤ 4096 * (i / 4096 + 1)) ⌝ }
+{
+    let end = 4096 * (i / 4096 + 1);
+    if end < hi { end } else { hi }
+}
+
 // Slot i has been tried, and n slots are filled: where it is the last of its block, that is the block's end.
-pub fn end_row(ends: &mut [u32], i: usize, n: usize)
+pub fn end_slot(ends: &mut [u32], i: usize, n: usize)
     requires { ⌜ (i < 4096 * length (now ends)) × (n ≤ 1000000) ⌝ }
     ensures { λ _. ⌜ now (ends .exit) ≡ endsAfter (now (ends .entry)) i n ⌝ }
 {

@@ -1,8 +1,7 @@
 -- The invariant: the first slots have their parents, and where some are left the blocks before b have ended. Assumes nothing.
-use Prim.Native.Nat.{ℕ, _+_, _-_, _<_, _≤_}
+use Prim.Native.Nat.{_-_, _<_, _≤_}
 use mathlib.Core.Path.{_≡_, refl, _∙_}
-use mathlib.Core.List.{List}
-use lib.ListN.{length, getD}
+use lib.ListN.{length}
 use Rattle.slots.specs.Running.{Ended, Settling}
 use Rattle.slots.proofs.RunningLaws.{block-is, ended-more, ended-next, ended-low, settling-start, settling-end}
 use native.Mathlib.Omega.{arith}

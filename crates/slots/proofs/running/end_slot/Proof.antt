@@ -2,8 +2,8 @@
 use borrow.Author.Tests.{eq-eqb, ne-eqb}
 use Rattle.slots.specs.Running.{endsAfter}
 use borrow.Author.Needs.{needs}
-use Rattle.slots.proofs.running.end_row.Statement.{statement}
-use Rattle.slots.proofs.running.end_row.Tie as tie
+use Rattle.slots.proofs.running.end_slot.Statement.{statement}
+use Rattle.slots.proofs.running.end_slot.Tie as tie
 
 cast-ends : tie.Need-cast-ends
 cast-ends c = search needs
@@ -25,6 +25,6 @@ returns-2 : tie.Need-returns-2
 unfolding endsAfter
 returns-2 c = rw (ne-eqb _ 4095 (c .if1 .left))
 
-pub end-row-spec : {M : Type 1} → statement M
-end-row-spec =
+pub end-slot-spec : {M : Type 1} → statement M
+end-slot-spec =
     tie.close (tie.spec cast-ends mul-ends slice-write-ends same-length returns returns-2)
