@@ -32,7 +32,7 @@ use Rattle.slots.specs.Running.{endsAfter, Marked}
 use Rattle.slots.proofs.LayoutLaws.{stays-none, stays-join}
 use Rattle.slots.proofs.RunningLaws.{marked-more, marked-same, marked-after, marked-last, parent-now, parent-same, parents-after}
 use Rattle.search.specs.Indexed.{Indexed}
-use Rattle.search.specs.Keeping.{FillingIn, Level, Known, Added, Crowded, Kept, Carries, RowReady, RowDone, RowFull, BlockReady, BlockDone, BlockFull, LevelDone, LevelFull}
+use Rattle.search.specs.Keeping.{FillingIn, Level, Known, Added, Crowded, Kept, Carries, RowReady, RowDone, RowFull, BlockReady, Advances, BlockDone, BlockFull, LevelDone, LevelFull}
 use Rattle.states.proofs.MaskTest.{submask}
 use Rattle.states.proofs.MaskLaws.{next-submask, no-bits, passed}
 use Rattle.states.proofs.SystemLaws.{step-missed, step-next, legal-or-refused}
@@ -218,9 +218,7 @@ pub record BlockTo (t : Table) (K : ℕ) (w w′ heads′ : List ℕ) (n n′ lo
   pub upto : i ≤ hi
   pub kept : Kept K w w′ n n′
   pub indexed : Indexed K w′ heads′ n′
-  pub advances :
-      (ends : List ℕ) → Marked ends lo n → (first last d : ℕ) → first ≤ lo → hi ≤ last
-      → FillingIn t K ends w first last n d (Before lo) → FillingIn t K ends w′ first last n′ d (Before i)
+  pub advances : Advances t K w w′ n n′ lo hi i
 
 module _ {t : Table} {K : ℕ} {w heads : List ℕ} {n lo hi : ℕ} (ready : BlockReady t K w heads n lo hi) where
   pub block-start : BlockTo t K w w heads n n lo hi lo

@@ -127,17 +127,17 @@ pub record BlockReady (t : Table) (K : ℕ) (w heads : List ℕ) (n lo hi : ℕ)
   pub block : hi ≤ 4096 * (lo / 4096 + 1)
   pub proper : (i : ℕ) → i < hi → improper t (stateIn w i) ≡ false
 
--- slots lo to hi - 1 of a level, whichever the level and the ends of the blocks before
-abbrev pub Advances : Table → ℕ → List ℕ → List ℕ → ℕ → ℕ → ℕ → ℕ → Type 0
-Advances t K w w′ n n′ lo hi =
+-- slots lo to i - 1 of a level that has those up to hi - 1, whichever the level and the ends of the blocks before
+abbrev pub Advances : Table → ℕ → List ℕ → List ℕ → ℕ → ℕ → ℕ → ℕ → ℕ → Type 0
+Advances t K w w′ n n′ lo hi i =
     (ends : List ℕ) → Marked ends lo n → (first last d : ℕ) → first ≤ lo → hi ≤ last
-    → FillingIn t K ends w first last n d (Before lo) → FillingIn t K ends w′ first last n′ d (Before hi)
+    → FillingIn t K ends w first last n d (Before lo) → FillingIn t K ends w′ first last n′ d (Before i)
 
 -- the block is done, or there was no room
 pub record BlockDone (t : Table) (K : ℕ) (w w′ heads′ : List ℕ) (n n′ lo hi : ℕ) : Type 0 where
   pub kept : Kept K w w′ n n′
   pub indexed : Indexed K w′ heads′ n′
-  pub advances : Advances t K w w′ n n′ lo hi
+  pub advances : Advances t K w w′ n n′ lo hi hi
 
 pub record BlockFull (t : Table) (K : ℕ) (w w′ : List ℕ) (n lo hi : ℕ) : Type 0 where
   pub len : length w′ ≡ length w
