@@ -67,12 +67,15 @@ FitsIn l K n = (i : ℕ) (c : Part) → i < K → begin l c i + size l c ≤ n
 
 -- ---- reading
 
+-- "16 state bytes (c, p of task 1, then task 2 and so on)"
 unfoldable pub stateAt : Layout → List ℕ → ℕ → State
 stateAt l w i = stateFrom w (l .state i)
 
+-- "the parent slot in 4 bytes low byte first"
 unfoldable pub parentAt : Layout → List ℕ → ℕ → ℕ
 parentAt l w i = fourAt w (l .parent i)
 
+-- "the mask"
 unfoldable pub maskAt : Layout → List ℕ → ℕ → ℕ
 maskAt l w i = getD w (l .mask i) 0
 
