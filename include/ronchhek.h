@@ -1,5 +1,5 @@
-/* Ronchhek: verdicts on real-time task tables, evidence of Safe, the replay of release lists and where its core time went, and
- * task sheets read and written.
+/* Ronchhek: verdicts on real-time task tables, evidence of Safe, the replay of release lists and where its core time went, task
+ * sheets read and written, and practice sheets drawn from a number.
  *
  * Link with libronchhek.a (`rt staticlib ronchhek` writes it to target/staticlib/). The calls take any bytes and any lengths
  * and always return. They read and write nothing but the bytes they are lent, take nothing from the heap, make no system
@@ -101,7 +101,8 @@ extern "C" {
  *                                                                  (ronchhek_replay and ronchhek_service, with the tick's number)
  *   12  the space for the outcome is too short: 16 bytes of state  (ronchhek_replay),
  *       192 bytes of totals                                        (ronchhek_service),
- *       27 bytes of table (ronchhek_read), the sheet's length      (ronchhek_write)
+ *       27 bytes of table                                          (ronchhek_read),
+ *       the sheet's length                                         (ronchhek_write and ronchhek_practice)
  *   14  the file is empty or not a whole number of states          (ronchhek_closed)
  *
  * 13 is for a single state that is not proper; no call here answers it.
@@ -254,6 +255,21 @@ uint64_t ronchhek_write(const uint8_t *table, size_t table_len,
                         uint8_t *out, size_t out_len);
 
 #define RONCHHEK_DONE 1
+
+/* The sheet of a practice table: a table that anyone can make again, from a policy, m, n and a seed of 16 bits.
+ *
+ * With s = seed at first, each draw is s = (25173 * s + 13849) mod 65536 and gives the new s. The tasks draw one after the other, three
+ * times each: P = 1 + draw mod 200, then D = 1 + draw mod P, then C = 1 + draw mod D. So every table made is valid, and the same
+ * four numbers give the same sheet in every build. Of policy 0, m 1, n 1 and seed 0 it is 03 00 01 01 06 2B 32: the draws are
+ * 13849, 48742 and 31223, so P = 50, D = 43 and C = 6.
+ *
+ * Returns kind * 2^48 + N, as ronchhek_write does:
+ *
+ *   kind 1, done     the sheet's N bytes (7 to 52) stand at the front of out; later bytes stay.
+ *   kind 0, refused  N is the refusal number: 4, 5 or 6 for policy, m and n, then 12.
+ */
+uint64_t ronchhek_practice(uint8_t policy, uint8_t m, uint8_t n, uint16_t seed,
+                           uint8_t *out, size_t out_len);
 
 #ifdef __cplusplus
 }

@@ -13,6 +13,9 @@ kind #, whose line is the vector's label. The kinds:
     t  a table                  table R, 0 for a valid one
     w  a table, a length        write LENGTH, or write refused R; then the whole output in hexadecimal
     r  a sheet                  read and written into 64 bytes: round as write, or round refused R
+    d  four numbers             practice as sheet: the practice table of policy, m, n and s
+    m  four numbers, a length   made, the number that the call for C programs returns, and the whole output in
+                                hexadecimal
     k  a table, a state, a mask tick next, tick missed or tick refused R; then the state
     p  a table, masks           replay kept, replay missed TICK or replay refused R TICK; then the state
     v  a sheet, two spaces      search safe N, search unsafe L N, search room K or search refused R; then
@@ -31,7 +34,7 @@ kind #, whose line is the vector's label. The kinds:
 
 A table is 27 bytes: policy, m, n, eight C, eight D, eight P. A state is 16 bytes: c and p of each of
 eight tasks, printed in that order. An output is filled with (i * 37 + 11) mod 256 at place i before
-the writer has it.
+the writer has it. Four numbers are policy, m and n in a byte each and s in 2 bytes, low byte first.
 
 A sheet and two spaces are the sheet's length in a byte, the sheet, the length of the work space and that
 of the trace space in 4 bytes each, low byte first, and a byte f. Both spaces are filled with
@@ -67,7 +70,7 @@ import reference as ref
 from reference import START, State, Table, number_bytes, sheet_bytes, table_of
 
 # The kinds whose vectors are made.
-KINDS = "nstwrkpvqlecfuz"
+KINDS = "nstwrdmkpvqlecfuz"
 
 FOLDER = Path(__file__).resolve().parent.parent / "crates" / "vectors"
 LONGEST_BODY = 4096  # what the program has room for
@@ -102,14 +105,18 @@ def number_vector(label: str, data: str, at: int = 0) -> Vector:
     return Vector("n", label, bytes([at]) + sheet, line)
 
 
-def sheet_vector(label: str, sheet: bytes) -> Vector:
+def table_line(call: Callable[..., Table], *given) -> str:
+    """The table that a call gives, or its refusal."""
     try:
-        table = ref.read_sheet(sheet)
-        tasks = [x for task in zip(table.C, table.D, table.P) for x in task]
-        line = "sheet accepted " + numbers([table.policy, table.m, table.n, *tasks])
+        table = call(*given)
     except ref.Refused as refused:
-        line = f"sheet refused {refused.number}"
-    return Vector("s", label, sheet, line)
+        return f"refused {refused.number}"
+    tasks = [x for task in zip(table.C, table.D, table.P) for x in task]
+    return "accepted " + numbers([table.policy, table.m, table.n, *tasks])
+
+
+def sheet_vector(label: str, sheet: bytes) -> Vector:
+    return Vector("s", label, sheet, "sheet " + table_line(ref.read_sheet, sheet))
 
 
 def table_vector(label: str, table: Table) -> Vector:
@@ -142,6 +149,28 @@ def round_vector(label: str, sheet: bytes) -> Vector:
     except ref.Refused as refused:
         line = f"round refused {refused.number}"
     return Vector("r", label, sheet, line)
+
+
+class Practice(NamedTuple):
+    """What a practice table is made of."""
+
+    policy: int
+    m: int
+    n: int
+    s: int
+
+
+def practice_body(given: Practice) -> bytes:
+    return bytes(given[:3]) + given.s.to_bytes(2, "little")
+
+
+def practice_vector(label: str, given: Practice) -> Vector:
+    return Vector("d", label, practice_body(given), "practice " + table_line(ref.practice, *given))
+
+
+def made_vector(label: str, given: Practice, length: int) -> Vector:
+    number, output = ref.practice_call(*given, filled(length, 11, 37))
+    return Vector("m", label, practice_body(given) + bytes([length]), f"made {number} {output.hex() or 'empty'}")
 
 
 def tick_vector(label: str, table: Table, state: State, mask: int) -> Vector:
@@ -500,6 +529,44 @@ def round_vectors() -> Iterator[Vector]:
 
 # ----------------------------------------------------------------------
 # Ticks and replays
+
+
+SEEDS = (0, 1, 2, 7, 255, 256, 1000, 13849, 25173, 32767, 32768, 40000, 65534, 65535)
+
+
+def refused_practices() -> Iterator[tuple[str, Practice]]:
+    """Policy, m and n at their limits and outside them: 4 before 5 before 6."""
+    for policy, m, n in product((0, 4, 5, 255), (0, 1, 8, 9, 255), (0, 1, 8, 9, 255)):
+        given = Practice(policy, m, n, 1000)
+        if ref.head_fault(policy, m, n):
+            yield f"policy {policy}, m {m}, n {n}", given
+
+
+def practice_vectors() -> Iterator[Vector]:
+    for place, s in enumerate(SEEDS):
+        for n in range(1, 9):
+            policy, m = (place + n) % 5, 1 + (place + 3 * n) % 8
+            yield practice_vector(f"policy {policy}, m {m}, n {n}, s {s}", Practice(policy, m, n, s))
+    for s in range(0, 65536, 4099):
+        yield practice_vector(f"eight tasks, s {s}", Practice(3, 2, 8, s))
+    for label, given in refused_practices():
+        yield practice_vector(label, given)
+
+
+def made_vectors() -> Iterator[Vector]:
+    for policy, name in enumerate(NAMES):
+        for place, s in enumerate(SEEDS):
+            m, n = 1 + (place + policy) % 8, 1 + (3 * place + policy) % 8
+            yield made_vector(f"{name}, m {m}, n {n}, s {s}", Practice(policy, m, n, s), 64)
+    for n, s in ((1, 0), (3, 7), (8, 65535)):
+        given = Practice(1, 2, n, s)
+        length = len(sheet_bytes(ref.practice(*given)))
+        for space in (0, 1, length - 1, length, length + 1, 52, 255):
+            yield made_vector(f"n {n}, s {s}, a space of {space} bytes", given, space)
+    # 4, 5 and 6 come before 12, and leave every byte
+    for label, given in refused_practices():
+        for space in (0, 64):
+            yield made_vector(f"{label}, a space of {space} bytes", given, space)
 
 
 class Dice:
@@ -1691,6 +1758,8 @@ MAKERS = {
     "t": table_vectors,
     "w": write_vectors,
     "r": round_vectors,
+    "d": practice_vectors,
+    "m": made_vectors,
     "k": tick_vectors,
     "p": replay_vectors,
     "v": search_vectors,

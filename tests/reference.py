@@ -1,7 +1,7 @@
 """An independent implementation of the verdict engine's paper (document 01), in plain Python, and of
-five changes of document 02: its closed lists (§1), its policy 4, least slack first (§3), its order of
-jobs that are equal otherwise, by age (§4), its totals of where the core time went (§5), and its columns
-of the work space (§6).
+six changes of document 02: its closed lists (§1), its policy 4, least slack first (§3), its order of
+jobs that are equal otherwise, by age (§4), its totals of where the core time went (§5), its columns of
+the work space (§6), and its practice tables (§7).
 
 It is written from the papers alone and shares nothing with the library: it is slow, direct, and
 meant to be read beside them. Each function's docstring names the section that it follows.
@@ -11,7 +11,7 @@ A sheet and an output are `bytes`. Tasks are counted from 0 here and from 1 in t
 of this file is the paper's task i + 1 and has bit i of a mask.
 """
 from functools import lru_cache
-from itertools import chain, combinations, product
+from itertools import chain, combinations, islice, product
 from typing import Iterable, Iterator, NamedTuple
 
 TASKS = 8  # entries of a table and of a state
@@ -59,15 +59,24 @@ def table_of(policy: int, m: int, tasks: list[tuple[int, int, int]]) -> Table:
     return Table(policy, m, len(tasks), works, deadlines, gaps)
 
 
+def head_fault(policy: int, m: int, n: int) -> int:
+    """Section "Refusals by cause", 4 to 6, in that order; 0 where none applies. Document 02, §3: 4
+    means a policy above 4."""
+    if policy > 4:
+        return 4
+    if not 1 <= m <= 8:
+        return 5
+    if not 1 <= n <= 8:
+        return 6
+    return 0
+
+
 def table_fault(table: Table) -> int:
     """Section "Refusals by cause", 4 to 7 for a table in memory, in that order; 0 for a valid
-    table. Document 02, §3: 4 means a policy above 4."""
-    if table.policy > 4:
-        return 4
-    if not 1 <= table.m <= 8:
-        return 5
-    if not 1 <= table.n <= 8:
-        return 6
+    table."""
+    fault = head_fault(table.policy, table.m, table.n)
+    if fault:
+        return fault
     for i in range(TASKS):
         C, D, P = table.C[i], table.D[i], table.P[i]
         if i < table.n:
@@ -175,6 +184,44 @@ def write_sheet(table: Table, output: bytes) -> tuple[int, bytes]:
     if len(output) < len(sheet):
         raise Refused(12)
     return len(sheet), sheet + output[len(sheet) :]
+
+
+# ----------------------------------------------------------------------
+# Practice tables
+
+
+def draws(s: int) -> Iterator[int]:
+    """Document 02, §7: from a 16-bit s, each draw is s = (25173 x s + 13849) mod 65536, giving the new
+    s."""
+    while True:
+        s = (25173 * s + 13849) % 65536
+        yield s
+
+
+def practice(policy: int, m: int, n: int, s: int) -> Table:
+    """Document 02, §7, "Practice tables from a number": each task draws three times, P = 1 + (draw mod
+    200), D = 1 + (draw mod P), C = 1 + (draw mod D). Refusals 4, 5 and 6 apply."""
+    fault = head_fault(policy, m, n)
+    if fault:
+        raise Refused(fault)
+    drawn, tasks = draws(s), []
+    for _ in range(n):
+        P = 1 + next(drawn) % 200
+        D = 1 + next(drawn) % P
+        C = 1 + next(drawn) % D
+        tasks.append((C, D, P))
+    return table_of(policy, m, tasks)
+
+
+def practice_call(policy: int, m: int, n: int, s: int, output: bytes) -> tuple[int, bytes]:
+    """The call for C: kind x 2^48 + N, with kind 1 and N the length of the sheet, which stands at the
+    front of the output; or kind 0 and N the refusal, 4, 5, 6 or 12, which leaves every byte. The output
+    handed in is not changed: what it becomes is returned."""
+    try:
+        length, output = write_sheet(practice(policy, m, n, s), output)
+    except Refused as refused:
+        return refused.number, output
+    return 2**48 + length, output
 
 
 # ----------------------------------------------------------------------
@@ -810,6 +857,20 @@ def check_service() -> None:
     assert service_call(sheet[:-1], b"\4", b"") == (2**48, b"")
 
 
+def check_practice() -> None:
+    """Document 02, §7: the kth draw is a^k s + c (1 + a + .. + a^(k-1)) mod 65536; all 65,536 draws from a
+    number are different, the last one that number; and every table made is valid, and is read back from
+    its sheet."""
+    for s in (0, 1, 13849, 40000, 65535):
+        drawn = list(islice(draws(s), 65536))
+        for k in range(1, 25):
+            assert drawn[k - 1] == (25173**k * s + 13849 * sum(25173**i for i in range(k))) % 65536
+        assert len(set(drawn)) == 65536 and drawn[-1] == s
+    for s in range(0, 65536, 61):
+        table = practice(s % 5, 1 + s % 8, 1 + s // 8 % 8, s)
+        assert table_fault(table) == 0 and read_sheet(sheet_bytes(table)) == table
+
+
 def check_beside_deadlines() -> None:
     """Policy 4 beside 3, on every table of two tasks with P at most 3. On one core each of them keeps
     whatever can be kept, so neither is Safe without the other. With C = 1 for both tasks the slack is
@@ -824,7 +885,8 @@ def check_beside_deadlines() -> None:
 
 def self_check() -> None:
     """Section "Benchmark tables": every entry, starred or not. Then demand 3: the levels are those
-    that replaying every list gives. Then files of states, policy 4, the age, the totals, and the columns."""
+    that replaying every list gives. Then files of states, policy 4, the age, the totals, the columns, and
+    practice tables."""
     big = MOST_SLOTS
     two = table_of(P_GFP, 1, [(1, 2, 2), (1, 2, 2)])
     assert verdict(two, big) == ("safe", 0, 4) and verdict(two, 3) == ("room", 0, 3)
@@ -860,6 +922,7 @@ def self_check() -> None:
     check_age()
     check_service()
     check_columns()
+    check_practice()
 
 
 if __name__ == "__main__":

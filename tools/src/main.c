@@ -37,6 +37,10 @@ static const struct command {
      "    task its work, deadline and least gap, all 0 to 255. Without -o, or for -o -, the bytes go to standard output, which\n"
      "    must not be a terminal. A table that the library refuses gives `refused R` and a line that says why on standard error, and no sheet.\n",
      make},
+    {"practice", "POLICY M N SEED [-o FILE]",
+     "    Writes the sheet of a practice table, drawn from a number, so that anyone can make it again: a policy as in `make`, M\n"
+     "    processors, N tasks and a seed from 0 to 65535. The bytes go where those of `make` go, and so do refusals.\n",
+     practice},
 };
 enum { COMMANDS = sizeof commands / sizeof *commands };
 

@@ -19,6 +19,7 @@ bool replay(struct args *args);
 bool service(struct args *args);
 bool show(struct args *args);
 bool make(struct args *args);
+bool practice(struct args *args);
 
 /* Says on standard error what is wrong, and ends with status 2. */
 _Noreturn void fail(const char *format, ...) __attribute__((format(printf, 1, 2)));
@@ -61,6 +62,13 @@ enum { POLICIES = 5 };
 extern const struct policy {
     const char *name, *words;
 } policies[POLICIES];
+
+/* The policy that a text names, or any number that a table's byte holds. */
+uint8_t policy_of(const char *text);
+
+/* Writes a sheet, by the answer of the call that made it, to a file, or for NULL and "-" to standard output; where it was refused,
+ * says so on standard error. */
+void put_sheet(const char *path, const uint8_t *sheet, uint64_t answer);
 
 /* What a refusal says. */
 const char *reason(unsigned refusal);

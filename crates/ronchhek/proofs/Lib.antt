@@ -3,4 +3,5 @@ pub mod VerdictLaws
 pub mod ReplayLaws
 pub mod ServiceLaws
 pub mod TableLaws
+pub mod PracticeLaws
 pub mod FileLaws

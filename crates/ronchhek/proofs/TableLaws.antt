@@ -8,6 +8,7 @@ use lib.Dec.{ltb}
 use lib.ListN.{length, getD, drop}
 use lib.Seq.{sets, sets-eq}
 use borrow.Author.Tests.{lt-ltb, le-ltb, ltb-true, ltb-false}
+use Rattle.lists.specs.Lists.{pick}
 use Rattle.tasks.specs.Table.{tableFault}
 use Rattle.tasks.specs.Answers.{writingAnswer}
 use Rattle.tasks.specs.Sheet.{sheetOf, sheetBytes, writeRefusal, writeAnswer, writeOut}
@@ -17,7 +18,7 @@ use Rattle.tasks.specs.declared.writer.Writing.the-variants as Writing
 use Rattle.lists.proofs.Bools.{by-bool}
 use Rattle.tasks.proofs.Answers.{writing-is}
 use Rattle.tasks.proofs.Sheets.{sheet-short}
-use Rattle.ronchhek.specs.Tables.{entries, tableBytes, tableFrom, readNumber, readSpace, bytesRefusal, writeNumber, writeSpace}
+use Rattle.ronchhek.specs.Tables.{entries, tableBytes, tableFrom, readNumber, readSpace, sheetNumber, bytesRefusal, writeNumber, writeSpace}
 
 -- ---- the 27 bytes written
 
@@ -77,6 +78,39 @@ fault-none t out h =
     (λ e. absurd (omega (arith, ltb-true 0 (tableFault t) e, rw e at h)))
     (λ e. omega (arith, ltb-false 0 (tableFault t) e))
 
+module _ (t : Table) (out : List ℕ) where
+  -- the writer refuses the table
+  pub sheet-refused : {r : ℕ} → writingAnswer (Writing.Refused r) ≡ writeAnswer t out → r ≡ sheetNumber t out
+  unfolding sheetNumber
+  sheet-refused {r} e =
+      by-bool (ltb 0 (writeRefusal t out))
+      (λ h.
+      let q : Writing.Refused r ≡ Writing.Refused (writeRefusal t out) = writing-is (e ∙ answer-refused t out h) in
+      let is : r ≡ writeRefusal t out = cc in
+      rw h is)
+      (λ h.
+      let q : Writing.Refused r ≡ Writing.Written (length (sheetBytes t)) = writing-is (e ∙ answer-written t out h) in
+      absurd (let z : _≡_ {A = ℕ} 0 1 = cc in omega arith))
+
+  -- the sheet is written
+  pub sheet-written : {n : ℕ} → writingAnswer (Writing.Written n) ≡ writeAnswer t out → (n ≤ 52) × (2 ^ 48 + n ≡ sheetNumber t out)
+  unfolding sheetNumber
+  sheet-written {n} e =
+      by-bool (ltb 0 (writeRefusal t out))
+      (λ h.
+      let q : Writing.Written n ≡ Writing.Refused (writeRefusal t out) = writing-is (e ∙ answer-refused t out h) in
+      absurd (let z : _≡_ {A = ℕ} 0 1 = cc in omega arith))
+      (λ h.
+      let q : Writing.Written n ≡ Writing.Written (length (sheetBytes t)) = writing-is (e ∙ answer-written t out h) in
+      let is : n ≡ length (sheetBytes t) = cc in
+      let short = sheet-short t (fault-none t out (ltb-false 0 (writeRefusal t out) h)) in
+      (omega arith, rw h (ap (λ k. 2 ^ 48 + k) is)))
+
+  -- a refusal leaves the output
+  pub out-stays : writeOut t out ≡ pick (ltb 0 (writeRefusal t out)) out (writeOut t out)
+  unfolding writeOut
+  out-stays = by-bool (ltb 0 (writeRefusal t out)) (λ h. rw h) (λ h. rw h)
+
 module _ (table out : List ℕ) where
   -- the bytes end before the table is complete, or go on after it
   pub table-short : length table < 27 → (1 ≡ writeNumber table out) × (out ≡ writeSpace table out)
@@ -87,40 +121,11 @@ module _ (table out : List ℕ) where
   unfolding writeNumber writeSpace bytesRefusal
   table-long h = let e = lt-ltb 27 (length table) h in let s = le-ltb (length table) 27 (omega arith) in (rw (s, e), rw (s, e))
 
-  module _ (from : 27 ≤ length table) (upto : length table ≤ 27) where
-    bytes-writer : bytesRefusal table out ≡ writeRefusal (tableFrom table) out
-    unfolding bytesRefusal
-    bytes-writer = rw (le-ltb (length table) 27 from, le-ltb 27 (length table) upto)
-
-    -- the writer refuses the table
-    pub sheet-refused :
-        {r : ℕ} → writingAnswer (Writing.Refused r) ≡ writeAnswer (tableFrom table) out
-        → (r ≡ writeNumber table out) × (writeOut (tableFrom table) out ≡ writeSpace table out)
-    unfolding writeNumber writeSpace writeOut
-    sheet-refused {r} e =
-        let t = tableFrom table in
-        by-bool (ltb 0 (writeRefusal t out))
-        (λ h.
-        let q : Writing.Refused r ≡ Writing.Refused (writeRefusal t out) = writing-is (e ∙ answer-refused t out h) in
-        let is : r ≡ writeRefusal t out = cc in
-        (rw (bytes-writer, h) is, rw (bytes-writer, h)))
-        (λ h.
-        let q : Writing.Refused r ≡ Writing.Written (length (sheetBytes t)) = writing-is (e ∙ answer-written t out h) in
-        absurd (let z : _≡_ {A = ℕ} 0 1 = cc in omega arith))
-
-    -- the sheet is written
-    pub sheet-written :
-        {n : ℕ} → writingAnswer (Writing.Written n) ≡ writeAnswer (tableFrom table) out
-        → (n ≤ 52) × (2 ^ 48 + n ≡ writeNumber table out) × (writeOut (tableFrom table) out ≡ writeSpace table out)
-    unfolding writeNumber writeSpace writeOut
-    sheet-written {n} e =
-        let t = tableFrom table in
-        by-bool (ltb 0 (writeRefusal t out))
-        (λ h.
-        let q : Writing.Written n ≡ Writing.Refused (writeRefusal t out) = writing-is (e ∙ answer-refused t out h) in
-        absurd (let z : _≡_ {A = ℕ} 0 1 = cc in omega arith))
-        (λ h.
-        let q : Writing.Written n ≡ Writing.Written (length (sheetBytes t)) = writing-is (e ∙ answer-written t out h) in
-        let is : n ≡ length (sheetBytes t) = cc in
-        let short = sheet-short t (fault-none t out (ltb-false 0 (writeRefusal t out) h)) in
-        (omega arith, rw (bytes-writer, h) (ap (λ k. 2 ^ 48 + k) is), rw (bytes-writer, h)))
+  -- the bytes are those of a table
+  pub table-whole :
+      27 ≤ length table → length table ≤ 27 → (sheetNumber (tableFrom table) out ≡ writeNumber table out) × (writeOut (tableFrom table) out ≡ writeSpace table out)
+  unfolding sheetNumber writeNumber writeSpace bytesRefusal
+  table-whole from upto =
+      let e = le-ltb (length table) 27 from in
+      let s = le-ltb 27 (length table) upto in
+      (rw (e, s), rw (e, s) (out-stays (tableFrom table) out))

@@ -2,4 +2,5 @@ pub mod Verdicts
 pub mod Replays
 pub mod Services
 pub mod Tables
+pub mod Practices
 pub mod Files

@@ -54,6 +54,10 @@ readSpace sheet space =
 
 -- ---- the sheet of a table
 
+-- the number for a table that is written: 4 to 7 and 12, or the length of its sheet
+unfoldable pub sheetNumber : Table → List ℕ → ℕ
+sheetNumber t out = done (writeRefusal t out) (length (sheetBytes t))
+
 -- 1 and 8 where the bytes end before the table is complete or go on after it; then 4 to 7 of the table, then 12
 unfoldable pub bytesRefusal : List ℕ → List ℕ → ℕ
 bytesRefusal table out =

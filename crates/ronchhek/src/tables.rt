@@ -4,7 +4,8 @@ ghost use Prim.Native.Nat.{_+_, _*_, _≤_};
 ghost use lib.ListN.{length, getD};
 ghost use lib.Seq.{sets};
 ghost use Rattle.lists.specs.Lists.{eight};
-ghost use Rattle.ronchhek.specs.Tables.{tableBytes, tableFrom, readNumber, readSpace, writeNumber, writeSpace};
+ghost use Rattle.tasks.specs.Sheet.{writeOut};
+ghost use Rattle.ronchhek.specs.Tables.{tableBytes, tableFrom, readNumber, readSpace, sheetNumber, writeNumber, writeSpace};
 use tasks::Reading;
 use tasks::Table;
 use tasks::Writing;
@@ -79,6 +80,16 @@ pub extern "C" fn ronchhek_read(sheet: &[u8], table: &mut [u8]) -> u64
     }
 }
 
+// Writes the sheet of a table: kind 1 with the sheet's length, kind 0 with the refusal's number.
+pub(crate) fn write_table(t: Table, out: &mut [u8]) -> u64
+    ensures { λ r. ⌜ (r ≡ sheetNumber t (now (out .entry))) × (now (out .exit) ≡ writeOut t (now (out .entry))) ⌝ }
+{
+    match tasks::write_sheet(t, out) {
+        Writing::Refused(r) => r as u64,
+        Writing::Written(n) => DONE + (n as u64),
+    }
+}
+
 // The sheet of a table of 27 bytes: kind 1 with the sheet's length, kind 0 with the refusal's number.
 #[no_mangle]
 pub extern "C" fn ronchhek_write(table: &[u8], out: &mut [u8]) -> u64
@@ -90,8 +101,5 @@ pub extern "C" fn ronchhek_write(table: &[u8], out: &mut [u8]) -> u64
     if 27 < table.len() {
         return 8;
     }
-    match tasks::write_sheet(table_from(table), out) {
-        Writing::Refused(r) => r as u64,
-        Writing::Written(n) => DONE + (n as u64),
-    }
+    write_table(table_from(table), out)
 }

@@ -9,7 +9,7 @@ use lib.Dec.{ltb}
 use lib.ListN.{length, getD, set, drop, length-append, length-drop, length-set, drop-of-length-le}
 use lib.Seq.{drop-drop, drop-append-seam, getD-set-same, getD-set-other, ext-getD}
 use borrow.Author.Tests.{lt-ltb, le-ltb, ltb-true, ltb-false}
-use Rattle.lists.specs.Lists.{eight, pick}
+use Rattle.lists.specs.Lists.{pick, front}
 use Rattle.tasks.specs.Table.{lastPolicy, breaks, tableFault}
 use Rattle.tasks.specs.Number.{numberBytes, numberAt}
 use Rattle.tasks.specs.Sheet.{emptyTable, refusedWith, acceptedAs, fieldAt, andThen, taskOf, taskThen, taskAt, withTask, afterTask, tasksFrom, fromTasks, fromPolicy, sheetOf, taskBytes, tasksBytes, sheetBytes}
@@ -21,7 +21,7 @@ use Rattle.tasks.specs.declared.sheet.Task.{Task}
 use Rattle.tasks.specs.declared.sheet.TaskRead.{TaskRead}
 use Rattle.tasks.specs.declared.sheet.TaskRead.the-variants as TaskRead
 use Rattle.lists.proofs.Bools.{by-bool}
-use Rattle.lists.proofs.Fill.{eight-at}
+use Rattle.lists.proofs.Fill.{eight-at, front-at, front-more}
 use Rattle.tasks.proofs.Groups.{Stands, number-stands, number-read}
 use Rattle.tasks.proofs.Fields.{field-read, field-passes}
 use Rattle.tasks.proofs.Tables.{FitTask, fit-task, task-fits, Valid, valid, not-refused}
@@ -304,38 +304,14 @@ after-part s at a rest e = sym (drop-drop (length a) at s) ∙ ap (drop (length 
 
 -- the entries of l below i, and then zeros
 abbrev cut : List ℕ → ℕ → List ℕ
-cut l i = eight (λ j. pick (ltb j i) (getD l j 0) 0)
-
-cut-at : (l : List ℕ) (i j : ℕ) → j < 8 → getD (cut l i) j 0 ≡ pick (ltb j i) (getD l j 0) 0
-cut-at l i j h = eight-at 0 (λ j. pick (ltb j i) (getD l j 0) 0) j h
-
-cut-set : (l : List ℕ) (i : ℕ) → i < 8 → set (cut l i) i (getD l i 0) ≡ cut l (i + 1)
-cut-set l i h =
-    ext-getD 0 (set (cut l i) i (getD l i 0)) (cut l (i + 1)) (length-set (cut l i) i (getD l i 0))
-    (λ j b.
-    let j8 : j < 8 = omega (arith, length-set (cut l i) i (getD l i 0)) in
-    elim (ℕ-discrete j i) [
-      | yes q ↦
-          rw q
-          (getD-set-same (cut l i) i (getD l i 0) 0 h ∙ sym (cut-at l (i + 1) i h ∙ ap (λ x. pick x (getD l i 0) 0) (lt-ltb i (i + 1) (omega arith))))
-      | no q ↦
-          getD-set-other (cut l i) i j (getD l i 0) 0 q ∙ cut-at l i j j8
-          ∙ ap (λ x. pick x (getD l j 0) 0) (same-test j i q)
-          ∙ sym (cut-at l (i + 1) j j8)
-    ])
-  where
-    same-test : (j i : ℕ) → (j ≡ i → ⊥) → ltb j i ≡ ltb j (i + 1)
-    same-test j i q =
-        by-bool (ltb j i)
-        (λ e. e ∙ sym (lt-ltb j (i + 1) (omega (arith, ltb-true j i e))))
-        (λ e. e ∙ sym (le-ltb j (i + 1) (omega (arith, ltb-false j i e, q))))
+cut l i = front i (λ j. getD l j 0)
 
 -- a list of eight with zeros from n on
 cut-all : (l : List ℕ) (n : ℕ) → length l ≡ 8 → ((i : ℕ) → n ≤ i → i < 8 → getD l i 0 ≡ 0) → cut l n ≡ l
 cut-all l n e z =
     ext-getD 0 (cut l n) l (sym e)
     (λ j h.
-    cut-at l n j h
+    front-at n (λ k. getD l k 0) j h
     ∙ by-bool (ltb j n) (λ t. ap (λ x. pick x (getD l j 0) 0) t) (λ t. ap (λ x. pick x (getD l j 0) 0) t ∙ sym (z j (ltb-false j n t) h)))
 
 -- t with its first i tasks
@@ -360,9 +336,9 @@ firsts-more t i h = λ k.
       policy = t .policy;
       m = t .m;
       n = t .n;
-      work = cut-set (t .work) i h k;
-      deadline = cut-set (t .deadline) i h k;
-      gap = cut-set (t .gap) i h k;
+      work = front-more (λ j. getD (t .work) j 0) i h k;
+      deadline = front-more (λ j. getD (t .deadline) j 0) i h k;
+      gap = front-more (λ j. getD (t .gap) j 0) i h k;
     }
 
 firsts-all : (t : Table) → Eight t → Valid t → firsts t (t .n) ≡ t

@@ -34,6 +34,7 @@ pub use writer::write_sheet;
 
 // The inner interface, for the layers above: it takes any table, state and words, and refuses nothing. `Table::ticker`, `State::words`,
 // `State::of_words` and the steps of a tick (`State::illegal`, `release`, `choose`, `run` and `missed`) are of it.
+pub use sheet::refused;
 pub use slack::tight;
 pub use state::has_bit;
 pub use ticker::Prepared;

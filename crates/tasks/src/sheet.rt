@@ -48,7 +48,7 @@ fn empty_table(policy: u8, m: u8, n: u8) -> Table
 }
 
 // The answer of a sheet that is refused.
-pub(crate) fn refused(why: u8) -> Sheet
+pub fn refused(why: u8) -> Sheet
     ensures { λ r. ⌜ r ≡ refusedWith why ⌝ }
 {
     Sheet {

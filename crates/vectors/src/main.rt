@@ -2,6 +2,7 @@
 // A record is a kind, the length of its body in two bytes, low byte first, and the body;
 // tests/make_vectors.py makes the records and the lines expected, and says what each kind holds.
 mod columns;
+mod drawn;
 mod files;
 mod number;
 mod sheet;
@@ -22,6 +23,8 @@ fn answer(kind: u8, body: &[u8]) {
         b't' => table::table(body),
         b'w' => writer::write(body),
         b'r' => writer::round(body),
+        b'd' => drawn::table(body),
+        b'm' => drawn::make(body),
         b'k' => tick::tick(body),
         b'p' => tick::replay(body),
         b'v' => verdicts::lend(kind, body),

@@ -1,0 +1,73 @@
+-- Every practice table is valid, and is read back from its sheet. Assumes nothing.
+use Prim.Native.Nat.{ℕ, _<_}
+use mathlib.Core.Path.{_≡_, refl, sym, _∙_}
+use mathlib.Core.Bool.{false}
+use lib.Dec.{ltb}
+use native.Mathlib.Omega.{arith}
+use borrow.Author.Tests.{lt-ltb, ltb-true}
+use Rattle.lists.proofs.Bools.{by-bool}
+use Rattle.lists.proofs.Counts.{none-any}
+use Rattle.lists.proofs.Fill.{front-at}
+use Rattle.tasks.specs.Table.{faultAt, tableFault}
+use Rattle.tasks.specs.Sheet.{refusedWith, acceptedAs, sheetOf, sheetBytes}
+use Rattle.tasks.specs.declared.sheet.Reading.the-variants as Reading
+use Rattle.tasks.proofs.Tables.{task-fits}
+use Rattle.tasks.proofs.RoundTrip.{Eight, write-read}
+use Rattle.practice.specs.Practice.{gapDrawn, deadlineDrawn, workDrawn, practiceTable, practiceRefusal, practiceOf}
+use Rattle.practice.proofs.DrawLaws.{drawn-fits}
+
+module _ (policy m n s : ℕ) where
+  -- no task breaks the rule, and the entries after the nth are 0
+  no-fault : (i : ℕ) → i < 8 → faultAt (practiceTable policy m n s) i ≡ false
+  unfolding practiceTable faultAt
+  no-fault i h =
+      rw (front-at n (λ k. workDrawn k s) i h, front-at n (λ k. deadlineDrawn k s) i h, front-at n (λ k. gapDrawn k s) i h)
+      (by-bool (ltb i n) (λ e. rw e (task-fits (drawn-fits i s))) (λ e. rw e))
+
+  -- THEOREM: for any four numbers the judge of tables refuses with 4, 5 or 6 by the first three, or not at all
+  pub practice-fault : tableFault (practiceTable policy m n s) ≡ practiceRefusal policy m n
+  unfolding tableFault practiceRefusal practiceTable
+  practice-fault = rw (none-any (faultAt (practiceTable policy m n s)) 8 no-fault)
+
+  -- THEOREM: every table made is valid
+  pub practice-valid : practiceRefusal policy m n ≡ 0 → tableFault (practiceTable policy m n s) ≡ 0
+  practice-valid e = practice-fault ∙ e
+
+  -- what the call answers, by what the judge says of the table
+  pub practice-refused : {r : ℕ} → 0 < r → r ≡ tableFault (practiceTable policy m n s) → refusedWith r ≡ practiceOf policy m n s
+  unfolding practiceOf
+  practice-refused {r} h e = let q : practiceRefusal policy m n ≡ r = sym (e ∙ practice-fault) in rw (q, lt-ltb 0 r h)
+
+  pub practice-made : tableFault (practiceTable policy m n s) ≡ 0 → acceptedAs (practiceTable policy m n s) ≡ practiceOf policy m n s
+  unfolding practiceOf
+  practice-made e = let q : practiceRefusal policy m n ≡ 0 = sym practice-fault ∙ e in rw q
+
+  -- and back: a refusal is that of the first three numbers, and a table that is made is the practice table
+  pub answer-refused : {r : ℕ} → practiceOf policy m n s .answer ≡ Reading.Refused r → (0 < r) × (practiceRefusal policy m n ≡ r)
+  unfolding practiceOf
+  answer-refused {r} e =
+      by-bool (ltb 0 (practiceRefusal policy m n))
+      (λ h.
+      let f : Reading.Refused (practiceRefusal policy m n) ≡ Reading.Refused r = rw h at e in
+      let q : practiceRefusal policy m n ≡ r = cc in
+      (omega (arith, ltb-true 0 (practiceRefusal policy m n) h), q))
+      (λ h.
+      let f : Reading.Accepted ≡ Reading.Refused r = rw h at e in
+      absurd (let z : _≡_ {A = ℕ} 0 1 = cc in omega arith))
+
+  pub answer-made : practiceOf policy m n s .answer ≡ Reading.Accepted → practiceOf policy m n s .table ≡ practiceTable policy m n s
+  unfolding practiceOf
+  answer-made e =
+      by-bool (ltb 0 (practiceRefusal policy m n))
+      (λ h.
+      let f : Reading.Refused (practiceRefusal policy m n) ≡ Reading.Accepted = rw h at e in
+      absurd (let z : _≡_ {A = ℕ} 0 1 = cc in omega arith))
+      (λ h. rw h)
+
+  practice-eight : Eight (practiceTable policy m n s)
+  unfolding practiceTable
+  practice-eight = record { work = refl; deadline = refl; gap = refl }
+
+  -- THEOREM: the sheet of a practice table is read as that table
+  pub practice-read : practiceRefusal policy m n ≡ 0 → sheetOf (sheetBytes (practiceTable policy m n s)) ≡ acceptedAs (practiceTable policy m n s)
+  practice-read e = write-read (practiceTable policy m n s) practice-eight (practice-valid e)
