@@ -21,7 +21,8 @@ pub(crate) fn drawn(s: u16) -> u16
 pub(crate) fn task_of(first: u16, second: u16, third: u16) -> Task
     ensures { λ r. ⌜ (r .gap ≡ 1 + first % 200) × (r .deadline ≡ 1 + second % (r .gap)) × (r .work ≡ 1 + third % (r .deadline)) ⌝ }
 {
-    let gap = 1 + first % 200;
+    let longest: u16 = 200;
+    let gap = 1 + first % longest;
     let deadline = 1 + second % gap;
     let work = 1 + third % deadline;
     Task {
