@@ -6,10 +6,11 @@ use native.Mathlib.Nat.{mod-lt}
 use native.Mathlib.Omega.{arith}
 use lib.Dec.{ltb}
 use lib.ListN.{set}
-use borrow.Author.Tests.{ltb-true, ltb-false}
+use borrow.Author.Tests.{ltb-true}
 use Rattle.lists.specs.Lists.{pick, front}
 use Rattle.lists.proofs.Bools.{by-bool}
 use Rattle.lists.proofs.Fill.{front-more, front-eight}
+use Rattle.tasks.specs.Sheet.{emptyTable}
 use Rattle.tasks.specs.declared.table.Table.{Table}
 use Rattle.tasks.proofs.Tables.{FitTask}
 use Rattle.practice.specs.Practice.{drawn, draw, gapDrawn, deadlineDrawn, workDrawn, practiceTable}
@@ -47,21 +48,12 @@ few-entries n {k} e =
     (λ h. let q : k ≡ n = rw h at e in omega (arith, ltb-true n 8 h))
     (λ h. let q : k ≡ 8 = rw h at e in omega arith)
 
--- a table of which the first i tasks are drawn
-abbrev firstDrawn : ℕ → ℕ → ℕ → ℕ → ℕ → Table
-firstDrawn policy m n seed i =
-    record {
-      policy = policy;
-      m = m;
-      n = n;
-      work = front i (λ k. workDrawn k seed);
-      deadline = front i (λ k. deadlineDrawn k seed);
-      gap = front i (λ k. gapDrawn k seed);
-    }
-
 -- t after i tasks, and s after three draws for each
 pub record Drawing (policy m n seed : ℕ) (t : Table) (s i : ℕ) : Type 0 where
-  pub table : t ≡ firstDrawn policy m n seed i
+  pub head : (t .policy ≡ policy) × (t .m ≡ m) × (t .n ≡ n)
+  pub work : t .work ≡ front i (λ k. workDrawn k seed)
+  pub deadline : t .deadline ≡ front i (λ k. deadlineDrawn k seed)
+  pub gap : t .gap ≡ front i (λ k. gapDrawn k seed)
   pub last : s ≡ draw (3 * i) seed
 
 -- the three draws of a task, and the numbers that they give
@@ -74,9 +66,9 @@ pub record TaskDrawn (s first second third C D P : ℕ) : Type 0 where
   pub work : C ≡ 1 + third % D
 
 module _ {policy m n seed : ℕ} where
-  pub drawing-start : Drawing policy m n seed (firstDrawn policy m n seed 0) seed 0
+  pub drawing-start : Drawing policy m n seed (emptyTable policy m n) seed 0
   unfolding draw
-  drawing-start = record { table = refl; last = refl }
+  drawing-start = record { head = (refl, refl, refl); work = refl; deadline = refl; gap = refl; last = refl }
 
   -- task i, of the draws 3 i + 1, 3 i + 2 and 3 i + 3
   module _ {t : Table} {s i first second third C D P : ℕ} (w : Drawing policy m n seed t s i) (d : TaskDrawn s first second third C D P) where
@@ -117,15 +109,10 @@ module _ {policy m n seed : ℕ} where
     drawing-step h =
         let e : 3 * i + 3 ≡ 3 * (i + 1) = omega arith in
         record {
-          table = λ k.
-              record {
-                policy = w .table k .policy;
-                m = w .table k .m;
-                n = w .table k .n;
-                work = set-more (λ j. workDrawn j seed) (ap (λ (t : Table). t .work) (w .table)) work-is h k;
-                deadline = set-more (λ j. deadlineDrawn j seed) (ap (λ (t : Table). t .deadline) (w .table)) deadline-is h k;
-                gap = set-more (λ j. gapDrawn j seed) (ap (λ (t : Table). t .gap) (w .table)) gap-is h k;
-              };
+          head = w .head;
+          work = set-more (λ j. workDrawn j seed) (w .work) work-is h;
+          deadline = set-more (λ j. deadlineDrawn j seed) (w .deadline) deadline-is h;
+          gap = set-more (λ j. gapDrawn j seed) (w .gap) gap-is h;
           last = third-is ∙ ap (λ k. draw k seed) e;
         }
 
@@ -133,17 +120,13 @@ module _ {policy m n seed : ℕ} where
   pub drawing-end : {t : Table} {s i : ℕ} → Drawing policy m n seed t s i → i ≡ pick (ltb n 8) n 8 → t ≡ practiceTable policy m n seed
   unfolding practiceTable
   drawing-end {t} {s} {i} w e =
-      w .table ∙ ap (firstDrawn policy m n seed) e
-      ∙ by-bool (ltb n 8) (λ h. rw h)
-      (λ h.
-      let more : 8 ≤ n = ltb-false n 8 h in
-      rw h
-      (λ k.
+      let all : (f : ℕ → ℕ) → front i f ≡ front n f = λ f. ap (λ k. front k f) e ∙ front-eight n f in
+      λ k.
       record {
-        policy = policy;
-        m = m;
-        n = n;
-        work = front-eight n (λ j. workDrawn j seed) more k;
-        deadline = front-eight n (λ j. deadlineDrawn j seed) more k;
-        gap = front-eight n (λ j. gapDrawn j seed) more k;
-      }))
+        policy = w .head .0 k;
+        m = w .head .1 k;
+        n = w .head .2 k;
+        work = (w .work ∙ all (λ j. workDrawn j seed)) k;
+        deadline = (w .deadline ∙ all (λ j. deadlineDrawn j seed)) k;
+        gap = (w .gap ∙ all (λ j. gapDrawn j seed)) k;
+      }
