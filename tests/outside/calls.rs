@@ -1,6 +1,6 @@
 //! The calls of include/ronchhek.h, as safe functions, and their packed answers.
 
-use crate::model::{Replay, Verdict};
+use crate::model::{Practice, Replay, Verdict};
 
 extern "C" {
     fn ronchhek_verdict(
@@ -30,6 +30,7 @@ extern "C" {
     fn ronchhek_read(sheet: *const u8, sheet_len: usize, table: *mut u8, table_len: usize) -> u64;
     fn ronchhek_write(table: *const u8, table_len: usize, out: *mut u8, out_len: usize) -> u64;
     fn ronchhek_closed(sheet: *const u8, sheet_len: usize, states: *const u8, states_len: usize) -> u64;
+    fn ronchhek_practice(policy: u8, m: u8, n: u8, seed: u16, out: *mut u8, out_len: usize) -> u64;
 }
 
 /// The call takes any bytes and any lengths, so there is nothing to test before it.
@@ -60,6 +61,11 @@ pub fn write(table: &[u8], out: &mut [u8]) -> u64 {
 
 pub fn closed(sheet: &[u8], file: &[u8]) -> u64 {
     unsafe { ronchhek_closed(sheet.as_ptr(), sheet.len(), file.as_ptr(), file.len()) }
+}
+
+pub fn practice(given: Practice, out: &mut [u8]) -> u64 {
+    let Practice { policy, cores, tasks, seed } = given;
+    unsafe { ronchhek_practice(policy, cores, tasks, seed, out.as_mut_ptr(), out.len()) }
 }
 
 /// kind * 2^48 + N, where N bytes are written.

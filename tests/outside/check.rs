@@ -14,7 +14,7 @@ pub struct Searched<'a> {
     pub answer: u64,
 }
 
-/// The one space of a call of ronchhek_replay, ronchhek_service, ronchhek_read or ronchhek_write.
+/// The one space of a call of ronchhek_replay, ronchhek_service, ronchhek_read, ronchhek_write or ronchhek_practice.
 pub struct Called<'a> {
     pub before: &'a [u8],
     pub after: &'a [u8],
@@ -98,6 +98,16 @@ pub fn answered(m: &Model, t: &Table, v: Verdict, levels: Option<&Levels>, c: &S
         }
     }
     Ok(())
+}
+
+/// A search of a sheet that reads as this: refused, or answered as its levels say.
+pub fn searched(m: &Model, reading: &Result<Table, u8>, levels: Option<&Levels>, c: &Searched) -> Result<(), String> {
+    let (w, t) = (c.work_before.len(), c.trace_before.len());
+    if let Some(number) = search_refusal(m, reading, w, t) {
+        return refused(number, c);
+    }
+    let v = levels.unwrap().verdict(m.slots(w)).ok_or("a K that the levels do not decide")?;
+    answered(m, reading.as_ref().unwrap(), v, levels, c)
 }
 
 /// The slot rule: slot 0 is the start state with parent 0 and mask 0, any other slot's parent is an earlier slot
@@ -229,7 +239,7 @@ pub fn fitted(bytes: Result<Vec<u8>, u8>, space: usize) -> Result<Vec<u8>, u8> {
     bytes.and_then(|b| if space < b.len() { Err(12) } else { Ok(b) })
 }
 
-/// A call of ronchhek_read or ronchhek_write: the bytes at the front of the space, or the refusal.
+/// A call of ronchhek_read, ronchhek_write or ronchhek_practice: the bytes at the front of the space, or the refusal.
 pub fn written(outcome: &Result<Vec<u8>, u8>, c: &Called) -> Result<(), String> {
     let expected = packed_bytes(outcome);
     if c.answer != expected {

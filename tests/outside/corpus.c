@@ -1,8 +1,8 @@
 /* corpus FOLDER: every line of FOLDER/cases.txt in one process, for valgrind: each space is a heap block of the exact size that
  * nothing wrote to before. The first line of a verdict must be the one expected, the list of an unsafe one must miss at its last
  * tick, the parents and masks of the slots must lead to their states, the states of a search must be accepted as a file exactly when
- * it is safe, the totals of every list must balance, and the table of an accepted sheet must give the same sheet again. Ends with
- * status 1 at the first difference. */
+ * it is safe, the totals of every list must balance, and the table of an accepted sheet must give the same sheet again. Then practice
+ * sheets, which must give the same sheet again too. Ends with status 1 at the first difference. */
 #include <stdio.h>
 #include <stdlib.h>
 #include <string.h>
@@ -180,6 +180,38 @@ static void exchange(const char *name, const uint8_t *sheet, size_t len)
     free(out);
 }
 
+/* A practice sheet in a block of its length, read and written again; and none in a block that is a byte shorter. */
+static void practice(uint8_t policy, uint8_t m, uint8_t n, uint16_t seed)
+{
+    uint8_t *longest = space(RONCHHEK_LONGEST_SHEET);
+    uint64_t answer = ronchhek_practice(policy, m, n, seed, longest, RONCHHEK_LONGEST_SHEET);
+    char name[64];
+    snprintf(name, sizeof name, "practice %u %u %u %u", policy, m, n, seed);
+    if (RONCHHEK_KIND(answer) != RONCHHEK_DONE)
+        fail(name, "refused");
+    size_t len = RONCHHEK_COUNT(answer);
+    uint8_t *sheet = space(len), *shorter = space(len - 1);
+    if (ronchhek_practice(policy, m, n, seed, sheet, len) != answer || memcmp(sheet, longest, len) != 0)
+        fail(name, "made again it differs");
+    if (ronchhek_practice(policy, m, n, seed, shorter, len - 1) != 12)
+        fail(name, "a space too short is answered otherwise than expected");
+    exchange(name, sheet, len);
+    free(longest);
+    free(sheet);
+    free(shorter);
+}
+
+/* Of each policy, number of processors and number of tasks a practice sheet: how many. */
+static int practices(void)
+{
+    int sheets = 0;
+    for (unsigned policy = 0; policy < 5; policy++)
+        for (unsigned m = 1; m <= 8; m++)
+            for (unsigned n = 1; n <= 8; n++)
+                practice(policy, m, n, 200 * sheets++);
+    return sheets;
+}
+
 int main(int argc, char **argv)
 {
     char path[400], name[64], slots[16], expected[64];
@@ -205,6 +237,7 @@ int main(int argc, char **argv)
     if (!feof(cases))
         fail(path, "a line that cannot be read");
     fclose(cases);
-    printf("corpus: %d lines as expected\n", lines);
+    int sheets = practices();
+    printf("corpus: %d lines as expected, and %d practice sheets\n", lines, sheets);
     return lines == 0;
 }

@@ -1,6 +1,6 @@
 //! Differential test: the library's calls against the independent implementation of model.rs.
 //!
-//!     differ [--seed S] [--sheets N] [--case I] [--fault 1..44] [--corpus DIR]
+//!     differ [--seed S] [--sheets N] [--case I] [--fault 1..49] [--corpus DIR]
 //!
 //! Prints its seed, and at the end what was met. Ends with status 1 at the first difference.
 //! `--case I` runs that sheet of the seed alone. `--fault` seeds a mistake: in the independent side, or, of the layout, in the work
@@ -14,12 +14,14 @@ mod evidence;
 mod files;
 mod gen;
 mod layout;
+mod lent;
 mod model;
+mod practice;
 mod rng;
 mod service;
 
-use check::{Called, Searched};
 use layout::{Columns, Left, SLOT};
+use lent::Lent;
 use model::{End, Levels, Model, Replay, Table, Verdict, BY_NUMBER, POLICIES, STATE, TABLE};
 use rng::Rng;
 use std::collections::{BTreeMap, HashSet};
@@ -58,59 +60,6 @@ impl Met {
 
     fn of(&self, what: &str) -> usize {
         *self.0.get(what).unwrap_or(&0)
-    }
-}
-
-/// A space that is lent: random bytes, with random bytes around it, at any alignment.
-struct Lent {
-    before: Vec<u8>,
-    bytes: Vec<u8>,
-    at: usize,
-    len: usize,
-}
-
-impl Lent {
-    fn new(r: &mut Rng, len: usize) -> Lent {
-        let at = r.range(32, 47);
-        let mut before = vec![0; at + len + 32];
-        r.fill(&mut before);
-        Lent { bytes: before.clone(), before, at, len }
-    }
-
-    /// Input in place of a space: it holds these bytes before.
-    fn holding(r: &mut Rng, bytes: &[u8]) -> Lent {
-        let mut lent = Lent::new(r, bytes.len());
-        lent.before[lent.at..lent.at + lent.len].copy_from_slice(bytes);
-        lent.bytes.copy_from_slice(&lent.before);
-        lent
-    }
-
-    fn space(&mut self) -> &mut [u8] {
-        &mut self.bytes[self.at..self.at + self.len]
-    }
-
-    fn was(&self) -> &[u8] {
-        &self.before[self.at..self.at + self.len]
-    }
-
-    fn is(&self) -> &[u8] {
-        &self.bytes[self.at..self.at + self.len]
-    }
-
-    /// Whether input is as it was, with the bytes around it.
-    fn stays(&self) -> Result<(), String> {
-        if self.before != self.bytes {
-            return Err("a byte of the input or beside it changed".into());
-        }
-        Ok(())
-    }
-
-    fn around_stays(&self) -> Result<(), String> {
-        let end = self.at + self.len;
-        if self.before[..self.at] != self.bytes[..self.at] || self.before[end..] != self.bytes[end..] {
-            return Err("a byte outside a lent space changed".into());
-        }
-        Ok(())
     }
 }
 
@@ -166,16 +115,6 @@ impl Run {
         Subject { sheet, reading, levels }
     }
 
-    fn judge(&self, s: &Subject, c: &Searched) -> Result<(), String> {
-        let (w, t) = (c.work_before.len(), c.trace_before.len());
-        if let Some(number) = check::search_refusal(&self.m, &s.reading, w, t) {
-            return check::refused(number, c);
-        }
-        let levels = s.levels.as_ref().unwrap();
-        let v = levels.verdict(self.m.slots(w)).ok_or("a K that the levels do not decide")?;
-        check::answered(&self.m, s.reading.as_ref().unwrap(), v, Some(levels), c)
-    }
-
     /// One call of the search, judged; then, now and then, one changed byte of its outcome, which must be found.
     fn search(&mut self, r: &mut Rng, s: &Subject, work_len: usize, trace_len: usize) -> Result<Found, String> {
         let mut work = Lent::new(r, work_len);
@@ -195,19 +134,11 @@ impl Run {
             let left = mistake(&Left::new(columns, work.was(), work.is(), count));
             work.space().copy_from_slice(&left);
         }
-        let call = |work: &Lent, trace: &Lent, answer: u64, run: &Run| {
-            run.judge(
-                s,
-                &Searched {
-                    work_before: work.was(),
-                    work_after: work.is(),
-                    trace_before: trace.was(),
-                    trace_after: trace.is(),
-                    answer,
-                },
-            )
+        let m = self.m;
+        let judge = |work: &Lent, trace: &Lent, answer: u64| {
+            check::searched(&m, &s.reading, s.levels.as_ref(), &lent::searched(work, trace, answer))
         };
-        call(&work, &trace, answer, self).map_err(told)?;
+        judge(&work, &trace, answer).map_err(told)?;
         self.met.add("calls of the search");
         self.met.add(&match answer >> 48 {
             0 => format!("search refused {:2}", answer & 0xFF_FFFF),
@@ -233,7 +164,7 @@ impl Run {
                 }
                 _ => changed ^= 1 << r.below(64),
             }
-            if call(&work, &trace, changed, self).is_ok() {
+            if judge(&work, &trace, changed).is_ok() {
                 return Err(told("a changed byte was not found".into()));
             }
             self.met.add("changed bytes found");
@@ -250,7 +181,7 @@ impl Run {
         state.around_stays().map_err(told)?;
         let play = check::play(&self.m, &s.reading, list);
         let outcome = check::replay_outcome(&self.m, &play, state_len);
-        let call = Called { before: state.was(), after: state.is(), answer };
+        let call = state.called(answer);
         check::replayed(outcome, &call).map_err(told)?;
         self.met.add("calls of the replay");
         if state_len < 16 && matches!(outcome, Ok(Replay::Illegal(_))) {
@@ -265,7 +196,7 @@ impl Run {
         self.services(r, s, list, &play, &call).map_err(told)
     }
 
-    /// A call of the reader or the writer, judged; then, now and then, one changed byte of its outcome, which must be found.
+    /// A call that writes a table or a sheet, judged; then, now and then, one changed byte of its outcome, which must be found.
     fn written(
         &mut self,
         r: &mut Rng,
@@ -277,7 +208,7 @@ impl Run {
         let told = |e: String| format!("{call} into {} bytes: {e}", space.len);
         space.around_stays().map_err(told)?;
         let outcome = check::fitted(bytes, space.len);
-        check::written(&outcome, &Called { before: space.was(), after: space.is(), answer }).map_err(told)?;
+        check::written(&outcome, &space.called(answer)).map_err(told)?;
         self.met.add(&match outcome {
             Ok(_) => format!("{call} done"),
             Err(n) => format!("{call} refused {n:2}"),
@@ -290,7 +221,7 @@ impl Run {
             } else {
                 changed ^= 1 << r.below(64);
             }
-            if check::written(&outcome, &Called { before: space.was(), after: space.is(), answer: changed }).is_ok() {
+            if check::written(&outcome, &space.called(changed)).is_ok() {
                 return Err(format!("{call}: a changed byte was not found"));
             }
             self.met.add("changed bytes found");
@@ -754,6 +685,8 @@ fn whole_run(run: &mut Run, seed: u64, sheets: u64) -> Result<(), String> {
         let sets = if sheets >= 20_000 { &PUBLISHED[..] } else { &PUBLISHED[..1] };
         run.published_sets(&mut r, sets).map_err(|e| format!("document 000: {e}"))?;
         run.every_table(&mut r).map_err(|e| format!("every table: {e}"))?;
+        run.every_practice(&mut r).map_err(|e| format!("every practice table: {e}"))?;
+        run.every_seed(&mut r).map_err(|e| format!("every seed: {e}"))?;
         run.most_slots(&mut r).map_err(|e| format!("most slots: {e}"))?;
         run.sizes_of_files(&mut r).map_err(|e| format!("sizes of files: {e}"))?;
         run.all_at_once(&mut r).map_err(|e| format!("all tasks at once: {e}"))?;
@@ -800,7 +733,8 @@ fn one_sheet(run: &mut Run, seed: u64, i: u64) -> Result<(), String> {
     let mut r = Rng::new(seed, i);
     let sheet = gen::sheet(&mut r);
     let shown = hex(&sheet);
-    run.case(&mut r, sheet).map_err(|e| format!("case {i}, sheet {shown}: {e}"))
+    run.case(&mut r, sheet).map_err(|e| format!("case {i}, sheet {shown}: {e}"))?;
+    run.practices(&mut r).map_err(|e| format!("case {i}, {e}"))
 }
 
 /// A full run must have met every answer and refusal, or the generated sheets show too little.
@@ -822,7 +756,9 @@ fn complete(met: &Met) -> Result<(), String> {
     all.extend(["other states", "another end"].map(|what| format!("sheets of policy 4 with {what} under policy 3")));
     all.extend((2..POLICIES).map(|p| format!("sheets of policy {p} with other states by number alone")));
     all.push("sheets of policy 3 with another end by number alone".into());
-    all.extend(["read done", "write done"].map(String::from));
+    all.extend([4, 5, 6, 12].map(|n| format!("practice refused {n:2}")));
+    all.extend((1..=8).map(|n| format!("practice tables of {n} tasks")));
+    all.extend(["read done", "write done", "practice done"].map(String::from));
     all.extend(KINDS.map(|kind| format!("{kind} with every rest")));
     match all.iter().find(|what| met.of(what) < 20) {
         Some(what) => Err(format!("met fewer than 20 times: {what}")),
@@ -883,6 +819,6 @@ fn faults() -> impl Iterator<Item = &'static str> {
 }
 
 fn usage() -> ! {
-    eprintln!("usage: differ [--seed S] [--sheets N] [--case I] [--fault 1..44] [--corpus DIR]");
+    eprintln!("usage: differ [--seed S] [--sheets N] [--case I] [--fault 1..49] [--corpus DIR]");
     std::process::exit(2);
 }

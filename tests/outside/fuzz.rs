@@ -1,4 +1,4 @@
-//! Fuzz driver: the calls on random sheets, lists, tables, files and sizes of spaces, with pages that fault on any access
+//! Fuzz driver: the calls on random sheets, lists, tables, files, numbers and sizes of spaces, with pages that fault on any access
 //! on both sides of every space. The input stands in pages that fault on a write.
 //!
 //!     fuzz [--seconds S] [--seed S] [--from I] [--cases N]
@@ -7,6 +7,7 @@
 //! Every outcome is judged by the rules of check.rs.
 
 mod calls;
+#[allow(dead_code)]
 mod check;
 #[allow(dead_code)]
 mod files;
@@ -20,7 +21,7 @@ mod rng;
 
 use check::{Called, Searched};
 use layout::SLOT;
-use model::{Model, Table, Verdict, STATE, TABLE, TOTALS};
+use model::{Model, Table, Verdict, LONGEST, STATE, TABLE, TOTALS};
 use rng::Rng;
 use std::io::Write;
 use std::sync::atomic::{AtomicU64, Ordering};
@@ -191,18 +192,32 @@ fn written(
     check::written(&check::fitted(bytes, len), &called).map_err(told)
 }
 
+/// Lengths of a space round the one that suffices, and any.
+fn length(r: &mut Rng, full: usize) -> usize {
+    let any = r.below(PAGE + 1);
+    r.pick(&[0, full - 1, full, full, full + 1, 60, any])
+}
+
 /// The sheet read, and a table written, which stands in the page of the list.
 fn exchange(r: &mut Rng, m: &Model, spaces: &Spaces, sheet: &[u8], reading: &Result<Table, u8>) -> Result<(), String> {
     let bytes = reading.as_ref().map(|t| m.table_bytes(t)).map_err(|n| *n);
     let table = gen::table_bytes(r, bytes.clone().unwrap_or(vec![0; TABLE]));
-    let (input, len) = (put(r, &spaces.input, sheet), r.pick(&[0, TABLE - 1, TABLE, TABLE, TABLE + 1, 60]));
+    let (input, len) = (put(r, &spaces.input, sheet), length(r, TABLE));
     written(r, &spaces.state, len, bytes, |space| calls::read(spaces.input.bytes(&input), space))
         .map_err(|e| format!("sheet {sheet:?} read: {e}"))?;
     let bytes = m.sheet_of_table(&table);
     let full = bytes.as_ref().map_or(30, Vec::len);
-    let (input, len) = (put(r, &spaces.list, &table), r.pick(&[0, full - 1, full, full, full + 1, 60]));
+    let (input, len) = (put(r, &spaces.list, &table), length(r, full));
     written(r, &spaces.state, len, bytes, |space| calls::write(spaces.list.bytes(&input), space))
         .map_err(|e| format!("table {table:?} written: {e}"))
+}
+
+/// A practice sheet made.
+fn practice(r: &mut Rng, m: &Model, spaces: &Spaces) -> Result<(), String> {
+    let given = gen::practice(r);
+    let bytes = m.practice(given).map(|t| model::write_sheet(&t));
+    let len = length(r, bytes.as_ref().map_or(LONGEST, Vec::len));
+    written(r, &spaces.state, len, bytes, |space| calls::practice(given, space)).map_err(|e| format!("{given:?}: {e}"))
 }
 
 /// The file of a search, often damaged, or any bytes.
@@ -341,7 +356,8 @@ fn case(r: &mut Rng, m: &Model, spaces: &Spaces, most_slots: usize, found: &mut 
     found[5 + evidence(r, m, spaces, spaces.input.bytes(&input), &work, answer)?] += 1;
     replays(r, m, spaces, spaces.input.bytes(&input), &list)?;
     found[4] += 1;
-    exchange(r, m, spaces, &sheet, &reading)
+    exchange(r, m, spaces, &sheet, &reading)?;
+    practice(r, m, spaces)
 }
 
 fn main() {
@@ -393,7 +409,7 @@ fn main() {
     println!(
         "fuzz: the states of each search judged, and as many files ({accepted} accepted, {no} no, {unread} refused)"
     );
-    println!("fuzz: as many sheets read and tables written, no fault");
+    println!("fuzz: as many sheets read, tables written and practice sheets made, no fault");
 }
 
 fn usage() -> ! {

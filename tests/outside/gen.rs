@@ -1,6 +1,6 @@
-//! Generated sheets and tables, valid and damaged; and release lists.
+//! Generated sheets and tables, valid and damaged; what practice tables are made of; and release lists.
 
-use crate::model::{self, Model, State, Table, Task, Tick, POLICIES};
+use crate::model::{self, Model, Practice, State, Table, Task, Tick, POLICIES};
 use crate::rng::Rng;
 
 /// Numbers at and beside the limits of a sheet's fields.
@@ -188,6 +188,16 @@ pub fn table_bytes(r: &mut Rng, valid: Vec<u8>) -> Vec<u8> {
         }
     }
     bytes
+}
+
+/// What a practice table is made of: each byte mostly as it may be, else beside that or any.
+pub fn practice(r: &mut Rng) -> Practice {
+    let byte = |r: &mut Rng, least: u8, most: u8| match r.below(12) {
+        0 => r.pick(&[0, most + 1, 255]),
+        1 => r.byte(),
+        _ => r.range(least as usize, most as usize) as u8,
+    };
+    Practice { policy: byte(r, 0, POLICIES - 1), cores: byte(r, 1, 8), tasks: byte(r, 1, 8), seed: r.next() as u16 }
 }
 
 /// A sheet: half of them valid, the others damaged in one place, in several, or random bytes.

@@ -1,7 +1,8 @@
 //! The rules of document 01 written once more: sheet, table, tick, replay, and a search with plain sets; and those of document
-//! 02's closed lists (§1), least slack first (§3), equal jobs by age (§4) and where the core time went (§5), in bytes as include/ronchhek.h
-//! has them. The columns of its work space (§6) are in layout.rs. Slow and direct; shares nothing with the library. Section names in the comments are document 01's. Tasks are
-//! counted from 0 here, so task i of this file is the document's task i + 1.
+//! 02's closed lists (§1), least slack first (§3), equal jobs by age (§4), where the core time went (§5) and practice tables from a
+//! number (§7), in bytes as include/ronchhek.h has them. The columns of its work space (§6) are in layout.rs. Slow and direct; shares
+//! nothing with the library. Section names in the comments are document 01's. Tasks are counted from 0 here, so task i of this file
+//! is the document's task i + 1.
 
 use crate::layout::SLOT;
 use std::collections::{HashMap, HashSet};
@@ -19,7 +20,7 @@ pub fn preempted(policy: u8) -> bool {
     matches!(policy, 1 | 3 | 4)
 }
 
-#[derive(Clone, Copy, PartialEq, Eq, Debug)]
+#[derive(Clone, Copy, PartialEq, Eq, Hash, Debug)]
 pub struct Task {
     pub work: u8,
     pub deadline: u8,
@@ -32,6 +33,15 @@ pub struct Table {
     pub policy: u8,
     pub cores: u8,
     pub tasks: Vec<Task>,
+}
+
+/// What a practice table is made of: policy, cores and tasks, which may be any bytes, and the first s.
+#[derive(Clone, Copy, Debug)]
+pub struct Practice {
+    pub policy: u8,
+    pub cores: u8,
+    pub tasks: u8,
+    pub seed: u16,
 }
 
 /// c and p of each of eight tasks.
@@ -170,7 +180,7 @@ pub struct Model {
 pub const BY_NUMBER: u8 = 23;
 
 /// Faults that `Model` knows.
-pub const FAULTS: [&str; 34] = [
+pub const FAULTS: [&str; 39] = [
     "under NP an urgent job takes a started job's core",
     "a deadline is tested only when no time is left",
     "a task's rule is judged after all tasks",
@@ -205,6 +215,11 @@ pub const FAULTS: [&str; 34] = [
     "totals are not written under refusal 11",
     "a run is counted where the state after a tick has less work left than the one before",
     "the work left of a miss is that before the tick",
+    "the D of a practice table is drawn from 200",
+    "the numbers of a practice table are of s before the step",
+    "each task of a practice table draws C, then D, then P",
+    "each task of a practice table draws from the first s again",
+    "the tasks of a practice table are judged before its cores",
 ];
 
 // The sheet.
@@ -250,6 +265,9 @@ pub fn write_sheet(t: &Table) -> Vec<u8> {
     out
 }
 
+/// Bytes of the longest sheet: four numbers below 128, and three of each task with two bytes.
+pub const LONGEST: usize = 4 + 3 * TASKS * 2;
+
 /// Bytes of a table: policy, m, n, then C, D, P of eight tasks.
 pub const TABLE: usize = 3 + 3 * TASKS;
 
@@ -273,15 +291,7 @@ impl Model {
             _ => return Err(8),
         }
         let (policy, cores, n) = (b[0], b[1], b[2] as usize);
-        if self.no_policy(policy as u32) {
-            return Err(4);
-        }
-        if !(1..=8).contains(&cores) {
-            return Err(5);
-        }
-        if !(1..=8).contains(&n) {
-            return Err(6);
-        }
+        self.head(policy, cores, b[2])?;
         let mut tasks = Vec::new();
         for (i, entry) in b[3..].chunks(3).enumerate() {
             let task = Task { work: entry[0], deadline: entry[1], gap: entry[2] };
@@ -295,6 +305,16 @@ impl Model {
             }
         }
         Ok(write_sheet(&Table { policy, cores, tasks }))
+    }
+
+    /// Refusals 4, 5 and 6 of a table's first three bytes.
+    fn head(&self, policy: u8, cores: u8, n: u8) -> Result<(), u8> {
+        match (cores, n) {
+            _ if self.no_policy(policy as u32) => Err(4),
+            (1..=8, 1..=8) => Ok(()),
+            (1..=8, _) => Err(6),
+            _ => Err(5),
+        }
     }
 
     /// Refusal 4: a policy above 4.
@@ -342,6 +362,51 @@ impl Model {
             return Err(8);
         }
         Ok(Table { policy: policy as u8, cores: cores as u8, tasks })
+    }
+
+    // Practice tables.
+
+    /// Document 02's §7: "given policy, m, n and s, each task draws three times"; s goes on from task to task. Refusals 4, 5 and 6, in
+    /// this order.
+    pub fn practice(&self, given: Practice) -> Result<Table, u8> {
+        let Practice { policy, cores, tasks: n, seed } = given;
+        if self.fault == 39 {
+            self.head(policy, 1, n)?;
+        }
+        self.head(policy, cores, n)?;
+        let mut s = seed;
+        let mut tasks = Vec::new();
+        for _ in 0..n {
+            if self.fault == 38 {
+                s = seed;
+            }
+            tasks.push(self.drawn_task(&mut s));
+        }
+        Ok(Table { policy, cores, tasks })
+    }
+
+    /// P = 1 + (draw mod 200), D = 1 + (draw mod P), C = 1 + (draw mod D).
+    fn drawn_task(&self, s: &mut u16) -> Task {
+        let mut draws = [self.draw(s), self.draw(s), self.draw(s)];
+        if self.fault == 37 {
+            draws.reverse();
+        }
+        let gap = 1 + draws[0] % 200;
+        let deadline = 1 + draws[1] % if self.fault == 35 { 200 } else { gap };
+        let work = 1 + draws[2] % deadline;
+        Task { work: work as u8, deadline: deadline as u8, gap: gap as u8 }
+    }
+
+    /// "Each draw is s = (25173 × s + 13849) mod 65536, giving the new s."
+    fn draw(&self, s: &mut u16) -> u32 {
+        let before = *s as u32;
+        let after = (25173 * before + 13849) % 65536;
+        *s = after as u16;
+        if self.fault == 36 {
+            before
+        } else {
+            after
+        }
     }
 
     // The tick.

@@ -57,7 +57,7 @@ impl Run {
             let answer = calls::service(sheet.is(), input.is(), totals.space());
             totals.around_stays().map_err(told)?;
             let expected = check::service_outcome(&self.m, play, len);
-            let call = Called { before: totals.was(), after: totals.is(), answer };
+            let call = totals.called(answer);
             check::served(&expected, &call).map_err(told)?;
             check::beside(&s.reading, &call, replayed).map_err(told)?;
             self.meet(s, expected.0, len);
@@ -83,7 +83,7 @@ impl Run {
         } else {
             answer ^= 1 << r.below(64);
         }
-        if check::served(expected, &Called { before: totals.was(), after: totals.is(), answer }).is_ok() {
+        if check::served(expected, &totals.called(answer)).is_ok() {
             return Err("a changed byte was not found".into());
         }
         self.met.add("changed bytes found");

@@ -14,7 +14,7 @@ static uint8_t sheet[] = {3, 3, 2, 4, 2, 40, 60, 3, 50, 70, 4, 60, 80, 1, 3, 3};
 static const uint8_t one_state[] = {3, 1, 1, 1, 1, 1, 1}; /* its only state is the start state */
 
 struct job {
-    enum { NOTHING, VERDICT, REPLAY, SERVICE, READ, WRITE, ACCEPTED, NO } kind;
+    enum { NOTHING, VERDICT, REPLAY, SERVICE, READ, WRITE, PRACTICE, ACCEPTED, NO } kind;
     uint8_t *work, *trace;
     size_t slots;          /* or the states of a file, which are start states in the work space */
     uint64_t answer;
@@ -36,6 +36,8 @@ static void *run(void *given)
         ronchhek_read(sheet, sizeof sheet, table, sizeof table);
     if (job->kind == WRITE)
         ronchhek_write(table, sizeof table, out, sizeof out);
+    if (job->kind == PRACTICE)
+        ronchhek_practice(sheet[1], 8, 8, 65535, out, sizeof out);
     if (job->kind == ACCEPTED)
         job->answer = ronchhek_closed(one_state, sizeof one_state, job->work, job->slots * RONCHHEK_STATE_BYTES);
     if (job->kind == NO)
@@ -111,8 +113,9 @@ int main(void)
     struct job job = {NOTHING, work, trace, 0, 0};
     size_t thread = used(&job); /* what a thread itself uses */
     int status = 0;
-    static const char *const names[] = {[REPLAY] = "replay", [SERVICE] = "replay with totals", [READ] = "read", [WRITE] = "write"};
-    for (job.kind = REPLAY; job.kind <= WRITE; job.kind++) {
+    static const char *const names[] = {[REPLAY] = "replay", [SERVICE] = "replay with totals", [READ] = "read", [WRITE] = "write",
+                                        [PRACTICE] = "practice sheet"};
+    for (job.kind = REPLAY; job.kind <= PRACTICE; job.kind++) {
         size_t measured = used(&job) - thread;
         printf("stack of a %s: %zu of %d\n", names[job.kind], measured, RONCHHEK_STACK_REPLAY);
         if (measured > RONCHHEK_STACK_REPLAY)
