@@ -1,8 +1,9 @@
 -- Every practice table is valid, and is read back from its sheet. Assumes nothing.
-use Prim.Native.Nat.{ℕ, _<_}
+use Prim.Native.Nat.{ℕ, _≤_, _<_}
 use mathlib.Core.Path.{_≡_, refl, sym, _∙_}
 use mathlib.Core.Bool.{false}
 use lib.Dec.{ltb}
+use lib.ListN.{length}
 use native.Mathlib.Omega.{arith}
 use borrow.Author.Tests.{lt-ltb, ltb-true}
 use Rattle.lists.proofs.Bools.{by-bool}
@@ -12,6 +13,7 @@ use Rattle.tasks.specs.Table.{faultAt, tableFault}
 use Rattle.tasks.specs.Sheet.{refusedWith, acceptedAs, sheetOf, sheetBytes}
 use Rattle.tasks.specs.declared.sheet.Reading.the-variants as Reading
 use Rattle.tasks.proofs.Tables.{task-fits}
+use Rattle.tasks.proofs.Sheets.{sheet-short}
 use Rattle.tasks.proofs.RoundTrip.{Eight, write-read}
 use Rattle.practice.specs.Practice.{gapDrawn, deadlineDrawn, workDrawn, practiceTable, practiceRefusal, practiceOf}
 use Rattle.practice.proofs.DrawLaws.{drawn-fits}
@@ -68,6 +70,10 @@ module _ (policy m n s : ℕ) where
   unfolding practiceTable
   practice-eight = record { work = refl; deadline = refl; gap = refl }
 
-  -- THEOREM: the sheet of a practice table is read as that table
+  -- THEOREM: the sheet of every table made fits 52 bytes, so it can be written
+  pub practice-short : practiceRefusal policy m n ≡ 0 → length (sheetBytes (practiceTable policy m n s)) ≤ 52
+  practice-short e = sheet-short (practiceTable policy m n s) (practice-valid e)
+
+  -- THEOREM: and is read as that table
   pub practice-read : practiceRefusal policy m n ≡ 0 → sheetOf (sheetBytes (practiceTable policy m n s)) ≡ acceptedAs (practiceTable policy m n s)
   practice-read e = write-read (practiceTable policy m n s) practice-eight (practice-valid e)
