@@ -1,5 +1,5 @@
 /* Ronchhek: verdicts on real-time task tables, evidence of Safe, the replay of release lists and where its core time went, task
- * sheets read and written, and practice sheets drawn from a number.
+ * sheets read and written, practice sheets drawn from a number, and sessions that step through a replay and return to a point.
  *
  * Link with libronchhek.a (`rt staticlib ronchhek` writes it to target/staticlib/). The calls take any bytes and any lengths
  * and always return. They read and write nothing but the bytes they are lent, take nothing from the heap, make no system
@@ -23,14 +23,15 @@ extern "C" {
 /* Sizes.
  *
  * A slot of the work space takes 21 bytes, so a work space has K = work_len / 21 slots, rounded down, and never more than
- * 1,000,000. The trace space needs K bytes. A state has 16 bytes, a table 27, the totals of a replay 192. The longest sheet has
- * 52 bytes.
+ * 1,000,000. The trace space needs K bytes. A state has 16 bytes, a table 27, the totals of a replay 192, a session 145. The
+ * longest sheet has 52 bytes.
  */
 #define RONCHHEK_SLOT_BYTES 21
 #define RONCHHEK_MOST_SLOTS 1000000
 #define RONCHHEK_STATE_BYTES 16
 #define RONCHHEK_TABLE_BYTES 27
 #define RONCHHEK_TOTALS_BYTES 192
+#define RONCHHEK_SESSION_BYTES 145
 #define RONCHHEK_LONGEST_SHEET 52
 
 /* Stack that ronchhek_verdict needs, in bytes, by the slots of the work space, that ronchhek_closed needs, and that
@@ -98,14 +99,19 @@ extern "C" {
  *    9  the work space has no slot                                 (ronchhek_verdict)
  *   10  the trace space is shorter than the slots are many         (ronchhek_verdict)
  *   11  a mask's bit for no task, or for a task that may not be released yet
- *                                                                  (ronchhek_replay and ronchhek_service, with the tick's number)
+ *                                                                  (ronchhek_replay and ronchhek_service, with the tick's number,
+ *                                                                  and ronchhek_session_step)
  *   12  the space for the outcome is too short: 16 bytes of state  (ronchhek_replay),
  *       192 bytes of totals                                        (ronchhek_service),
  *       27 bytes of table                                          (ronchhek_read),
- *       the sheet's length                                         (ronchhek_write and ronchhek_practice)
+ *       the sheet's length                                         (ronchhek_write and ronchhek_practice),
+ *       145 bytes of session                                       (the three calls on sessions)
+ *   13  a state of the session is not proper, present or marked    (the three calls on sessions)
  *   14  the file is empty or not a whole number of states          (ronchhek_closed)
+ *   15  a mark outside 1 to 8                                      (ronchhek_session_mark and ronchhek_session_return)
+ *   16  a return to a mark never set                               (ronchhek_session_return)
  *
- * 13 is for a single state that is not proper; no call here answers it.
+ * The calls on sessions judge 1 to 8, 12, 13, then 15 and 16, or 11: a session that is too short is not read.
  */
 
 /* The verdict on a sheet.
@@ -270,6 +276,45 @@ uint64_t ronchhek_write(const uint8_t *table, size_t table_len,
  */
 uint64_t ronchhek_practice(uint8_t policy, uint8_t m, uint8_t n, uint16_t seed,
                            uint8_t *out, size_t out_len);
+
+/* A session: whoever looks into a replay steps through it tick by tick, sets marks, and returns to them.
+ *
+ * A session has a present state and eight marks, numbered 1 to 8, each empty or a state. It is 145 bytes, which the caller keeps:
+ *
+ *   byte 0                 the marks that are set: bit 0 (value 1) is mark 1, .., bit 7 (value 128) is mark 8
+ *   bytes 1 to 16          the present state, 16 bytes as ronchhek_closed above has them
+ *   bytes 16 i + 1 on      the state under mark i, 16 bytes
+ *
+ * The bytes of a mark that is not set are neither read nor changed. A fresh session, at the start state and with no mark, is 145
+ * zero bytes. Bytes after the 145th are neither read nor changed.
+ *
+ *   ronchhek_session_step     one tick from the present state under a release mask. Its next state is the present one from then on;
+ *                             where the tick misses, the session stays where it was.
+ *   ronchhek_session_mark     sets a mark: stores the present state under it, also where it was set before.
+ *   ronchhek_session_return   makes the state under a mark the present one. The mark stays.
+ *
+ * Each returns kind * 2^48 + N (RONCHHEK_KIND and RONCHHEK_COUNT serve here too):
+ *
+ *   kind 1, done     N is 0.
+ *   kind 2, Missed   a step would make a job late; N is 0, and every byte stays.
+ *   kind 0, refused  N is the refusal number, and every byte stays: 1 to 8 of the sheet, 12 where the session has fewer than 145
+ *                    bytes, 13 where its present state or one under a set mark is not proper (as ronchhek_closed has it); then 15
+ *                    for a mark outside 1 to 8 and 16 for a return to a mark never set, or 11 for a mask that is not legal.
+ *
+ * For every list of these calls with one sheet, from a fresh session: note the mask of each step that is done, note under a mark
+ * that is set the masks noted so far, and on a return take those noted under it. Then the present state is the one with which
+ * ronchhek_replay keeps the masks noted, the state under each set mark is that of the masks noted under it, and no call answers 13.
+ */
+uint64_t ronchhek_session_step(const uint8_t *sheet, size_t sheet_len,
+                               uint8_t *session, size_t session_len, uint8_t mask);
+uint64_t ronchhek_session_mark(const uint8_t *sheet, size_t sheet_len,
+                               uint8_t *session, size_t session_len, uint8_t mark);
+uint64_t ronchhek_session_return(const uint8_t *sheet, size_t sheet_len,
+                                 uint8_t *session, size_t session_len, uint8_t mark);
+
+#define RONCHHEK_SESSION_MISSED 2
+#define RONCHHEK_SESSION_PRESENT_AT 1
+#define RONCHHEK_SESSION_MARK_AT(i) (16 * (size_t)(i) + 1)
 
 #ifdef __cplusplus
 }
