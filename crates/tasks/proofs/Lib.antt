@@ -26,3 +26,4 @@ pub mod Free
 pub mod NoMiss
 pub mod Answered
 pub mod Played
+pub mod Joined

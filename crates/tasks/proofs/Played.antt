@@ -85,7 +85,7 @@ module _ (t : Table) where
   -- ---- the refusals of a play
 
   module _ (valid : tableFault t ≡ 0) where
-    tick-eleven : (s : State) (mask r : ℕ) → improper t s ≡ false → ticked t s mask .answer ≡ Tick.Refused r → r ≡ 11
+    pub tick-eleven : (s : State) (mask r : ℕ) → improper t s ≡ false → ticked t s mask .answer ≡ Tick.Refused r → r ≡ 11
     tick-eleven s mask r proper e =
         by-bool (illegal t s mask)
         (λ h. cc (ap (λ x. x .answer) (ticked-illegal t s mask valid proper h)))

@@ -149,7 +149,7 @@ impl State {
     }
 
     // Whether the state is not proper.
-    pub(crate) fn improper(self, t: Table) -> bool
+    pub fn improper(self, t: Table) -> bool
         ensures { λ r. ⌜ r ≡ improper t self ⌝ }
     {
         self.any_improper(t) | (t.m < self.count_kept(t))

@@ -1,0 +1,4 @@
+-- Laws that several proofs cite, and the theorems.
+pub mod MarkLaws
+pub mod CallLaws
+pub mod Theorems

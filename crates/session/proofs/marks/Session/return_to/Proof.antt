@@ -1,0 +1,24 @@
+use Rattle.session.specs.Session.{returned}
+use Rattle.session.proofs.CallLaws.{marked-told}
+use borrow.Author.Needs.{needs}
+use Rattle.session.proofs.marks.Session.return_to.Statement.{statement}
+use Rattle.session.proofs.marks.Session.return_to.Tie as tie
+
+return-refusal-requires : tie.Need-return-refusal-requires
+return-refusal-requires c κs = search needs
+
+mark-requires : tie.Need-mark-requires
+mark-requires c κs = search needs
+
+unless-refused-requires : tie.Need-unless-refused-requires
+unless-refused-requires c κs = search needs
+
+returns : tie.Need-returns
+unfolding returned
+returns c =
+    let h = c .before .before .before in
+    marked-told (rw (← h .before .return-refusal .ensures, ← h .mark .ensures) (c .unless-refused .ensures))
+
+pub return-to-spec : {M : Type 1} → statement M
+return-to-spec =
+    tie.close (tie.spec return-refusal-requires mark-requires unless-refused-requires returns)

@@ -1,0 +1,9 @@
+// Sessions: whoever looks into a replay steps through it tick by tick, sets marks, and returns to them.
+mod calls;
+mod marks;
+
+pub use calls::MarkAnswer;
+pub use calls::Marked;
+pub use calls::Stepped;
+pub use marks::Mark;
+pub use marks::Session;
