@@ -1,14 +1,19 @@
 -- What the calls on a session answer. Assumes nothing.
 use Prim.Native.Nat.{ℕ}
-use mathlib.Core.Path.{_≡_, refl, sym, ap, _∙_}
+use mathlib.Core.Path.{_≡_, refl, sym, ap, ap₂, _∙_}
 use native.Mathlib.Omega.{arith}
 use Rattle.tasks.specs.Answers.{tickAnswer}
 use Rattle.tasks.specs.declared.table.Table.{Table}
 use Rattle.tasks.specs.declared.tick.TickAnswer.{TickAnswer}
 use Rattle.tasks.specs.declared.tick.Ticked.{Ticked}
-use Rattle.session.specs.Session.{afterTick, stepTick, stepped, markAnswer}
+use Rattle.session.specs.Session.{afterTick, stepTick, stepped, outcome, callAnswer, called, sessionAnswer}
 use Rattle.session.specs.declared.marks.Session.{Session}
-use Rattle.session.specs.declared.calls.Marked.{Marked}
+use Rattle.session.specs.declared.calls.Call.{Call}
+use Rattle.session.specs.declared.calls.Called.{Called}
+use Rattle.session.specs.declared.calls.Stepped.{Stepped}
+use Rattle.session.specs.declared.calls.SessionAnswer.{SessionAnswer}
+use Rattle.session.specs.declared.calls.SessionAnswer.the-variants.{Done, Missed, Refused}
+use Rattle.tasks.proofs.Answers.{other, second, tick-is}
 
 -- a step, from the tick and its answer
 pub step-told :
@@ -19,5 +24,33 @@ unfolding stepped
 step-told t x mask {r} {a} {y} e q h =
     (ap tickAnswer e, ap (λ z. z .state) e, h ∙ ap (afterTick x (r .state)) (sym q) ∙ ap (λ z. afterTick x (z .state) (z .answer)) e)
 
-pub marked-told : {a b : Marked} → a ≡ b → (markAnswer (a .answer) ≡ markAnswer (b .answer)) × (a .session ≡ b .session)
-marked-told e = (ap (λ r. markAnswer (r .answer)) e, ap (λ r. r .session) e)
+pub called-told : {a b : Called} → a ≡ b → (sessionAnswer (a .answer) ≡ sessionAnswer (b .answer)) × (a .session ≡ b .session)
+called-told e = (ap (λ r. sessionAnswer (r .answer)) e, ap (λ r. r .session) e)
+
+-- LAW: what a step answers is told by its figures, its state and its session
+pub step-is :
+    {a b : Stepped} → (tickAnswer (a .ticked) ≡ tickAnswer (b .ticked)) × (a .ticked .state ≡ b .ticked .state) × (a .session ≡ b .session)
+    → a ≡ b
+step-is e = ap₂ (λ r x. record { ticked = r; session = x }) (tick-is (e .0, e .1)) (e .2)
+
+session-answer-is : {a b : SessionAnswer} → sessionAnswer a ≡ sessionAnswer b → a ≡ b
+unfolding sessionAnswer
+session-answer-is {a = Done} {b = Done} e = refl
+session-answer-is {a = Done} {b = Missed} e = other (λ h. omega arith) e
+session-answer-is {a = Done} {b = Refused r} e = other (λ h. omega arith) e
+session-answer-is {a = Missed} {b = Done} e = other (λ h. omega arith) e
+session-answer-is {a = Missed} {b = Missed} e = refl
+session-answer-is {a = Missed} {b = Refused r} e = other (λ h. omega arith) e
+session-answer-is {a = Refused r} {b = Done} e = other (λ h. omega arith) e
+session-answer-is {a = Refused r} {b = Missed} e = other (λ h. omega arith) e
+session-answer-is {a = Refused r} {b = Refused q} e = ap Refused (second e)
+
+-- LAW: what a call answers is told by its figures and its session
+pub called-is : {a b : Called} → (sessionAnswer (a .answer) ≡ sessionAnswer (b .answer)) × (a .session ≡ b .session) → a ≡ b
+called-is e = ap₂ (λ a x. record { answer = a; session = x }) (session-answer-is (e .0)) (e .1)
+
+-- the promise of a call, by which of the three it is
+pub call-told :
+    (t : Table) (x : Session) {r : Called} {c c′ : Call} → c ≡ c′ → r ≡ outcome t x c′
+    → (sessionAnswer (r .answer) ≡ sessionAnswer (callAnswer t x c)) × (r .session ≡ called t x c)
+call-told t x q e = called-told (e ∙ ap (outcome t x) (sym q))

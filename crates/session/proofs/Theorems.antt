@@ -18,15 +18,16 @@ use Rattle.tasks.specs.declared.table.Table.{Table}
 use Rattle.tasks.specs.declared.tick.TickAnswer.{TickAnswer}
 use Rattle.tasks.specs.declared.tick.TickAnswer.the-variants as Tick
 use Rattle.tasks.specs.declared.tick.Ticked.{Ticked}
-use Rattle.session.specs.Session.{empty, fresh, markIn, markAt, firstOf, improperMark, improperSession, sessionFault, beyond, neverSet, setRefusal, returnRefusal, stepTick, moved, afterTick, stepped, marked, unlessRefused, markSet, returned}
-use Rattle.session.specs.Record.{Call, called, tickRefusal, markRefusal, callRefusal, Stored, Record, blank, afterStep, afterSet, broughtBack, afterReturn, noted, sessionAfter, recordAfter, KeptAs, MarkOnRecord, OnRecord}
-use Rattle.session.specs.Record.Call.{Step, SetMark, ReturnTo}
+use Rattle.session.specs.Session.{empty, fresh, markIn, markAt, firstOf, improperMark, improperSession, sessionFault, beyond, neverSet, setRefusal, returnRefusal, stepTick, moved, afterTick, stepped, marked, unlessRefused, markSet, returned, stepAnswer, callAnswer, called}
+use Rattle.session.specs.Record.{Stored, Record, blank, storedUnder, broughtBack, noted, sessionAfter, recordAfter, KeptAs, MarkOnRecord, OnRecord}
 use Rattle.session.specs.Record.Stored.{Nothing, Listed}
 use Rattle.session.specs.declared.marks.Mark.{Mark}
 use Rattle.session.specs.declared.marks.Session.{Session}
-use Rattle.session.specs.declared.calls.MarkAnswer.{MarkAnswer}
-use Rattle.session.specs.declared.calls.MarkAnswer.the-variants as Mark
-use Rattle.session.specs.declared.calls.Marked.{Marked}
+use Rattle.session.specs.declared.calls.SessionAnswer.{SessionAnswer}
+use Rattle.session.specs.declared.calls.SessionAnswer.the-variants.{Done, Missed, Refused}
+use Rattle.session.specs.declared.calls.Call.{Call}
+use Rattle.session.specs.declared.calls.Call.the-variants.{Step, SetMark, ReturnTo}
+use Rattle.session.specs.declared.calls.Called.{Called}
 use Rattle.lists.proofs.Bools.{by-bool, clash}
 use Rattle.lists.proofs.Counts.{none-any}
 use Rattle.lists.proofs.Picks.{pick-yes, pick-no}
@@ -48,8 +49,8 @@ none-of a b e =
 -- the calls on marks, by their answer: a refusal leaves the session, and without one it is the other
 unless :
     {X : Type 0} (r : ℕ) (x x′ : Session)
-    → (r ≡ 0 → unlessRefused r x x′ ≡ record { answer = Mark.Done; session = x′ } → X)
-    → (unlessRefused r x x′ ≡ record { answer = Mark.Refused r; session = x } → X) → X
+    → (r ≡ 0 → unlessRefused r x x′ ≡ record { answer = Done; session = x′ } → X)
+    → (unlessRefused r x x′ ≡ record { answer = Refused r; session = x } → X) → X
 unless r x x′ f g =
     by-bool (ltb 0 r)
     (λ h. g (sym (pick-yes _ h)))
@@ -64,10 +65,12 @@ was-set : (x : Session) (k : ℕ) → neverSet x k ≡ 0 → markAt x k .set ≡
 unfolding neverSet
 was-set x k e = by-bool (markAt x k .set) (λ h. h) (λ h. absurd (let z = rw h at e in omega arith))
 
--- the number that the answer of a call on marks has
-refusal-told : (r : ℕ) (x x′ : Session) → markRefusal (unlessRefused r x x′ .answer) ≡ r
-refusal-told r x x′ =
-    unless r x x′ (λ z e. ap (λ a. markRefusal (a .answer)) e ∙ sym z) (λ e. ap (λ a. markRefusal (a .answer)) e)
+-- the number that a refused call on marks answers
+refusal-told : (r n : ℕ) (x x′ : Session) → unlessRefused r x x′ .answer ≡ Refused n → r ≡ n
+refusal-told r n x x′ q =
+    unless r x x′
+    (λ z e. absurd (let w : _≡_ {A = ℕ} 0 1 = cc (ap (λ a. a .answer) e) in omega arith))
+    (λ e. let w : _≡_ {A = SessionAnswer} (Refused r) (Refused n) = ap (λ a. a .answer) (sym e) ∙ q in cc)
 
 -- 15 and 16 are not 13, nor is 11
 set-not : (k : ℕ) → beyond k ≡ 13 → ⊥
@@ -81,10 +84,10 @@ never-not x k e = by-bool (markAt x k .set) (λ h. let z = rw h at e in omega ar
 return-not : (x : Session) (k : ℕ) → firstOf (beyond k) (neverSet x k) ≡ 13 → ⊥
 return-not x k e = by-bool (ltb 0 (beyond k)) (λ h. set-not k (rw h at e)) (λ h. never-not x k (rw h at e))
 
-tick-not : (a : TickAnswer) → ((r : ℕ) → a ≡ Tick.Refused r → r ≡ 11) → tickRefusal a ≡ 13 → ⊥
-tick-not Tick.Next f e = omega arith
-tick-not Tick.Missed f e = omega arith
-tick-not (Tick.Refused r) f e = omega (arith, f r refl)
+tick-not : (a : TickAnswer) → ((r : ℕ) → a ≡ Tick.Refused r → r ≡ 11) → stepAnswer a ≡ Refused 13 → ⊥
+tick-not Tick.Next f e = let z : _≡_ {A = ℕ} 0 1 = cc in omega arith
+tick-not Tick.Missed f e = let z : _≡_ {A = ℕ} 0 1 = cc in omega arith
+tick-not (Tick.Refused r) f e = let z : _≡_ {A = ℕ} r 13 = cc in omega (arith, f r refl)
 
 -- ---- the marks by their numbers
 
@@ -150,13 +153,13 @@ module _ (t : Table) (valid : tableFault t ≡ 0) where
 
   step-noted :
       (x : Session) (h : Record) (mask : ℕ) (s : State) (a : TickAnswer)
-      → (a ≡ Tick.Next → KeptAs t (h .list ++ (mask ∷ [])) s) → OnRecord t x h → OnRecord t (afterTick x s a) (afterStep h mask a)
+      → (a ≡ Tick.Next → KeptAs t (h .list ++ (mask ∷ [])) s) → OnRecord t x h → OnRecord t (afterTick x s a) (noted h (Step mask) (stepAnswer a))
   step-noted x h mask s Tick.Next f on =
       record { present = f refl; marks = λ k. subst (λ m. MarkOnRecord t m (h .stored k)) (sym (mark-moved x s k)) (on .marks k) }
   step-noted x h mask s Tick.Missed f on = on
   step-noted x h mask s (Tick.Refused r) f on = on
 
-  set-noted : (x : Session) (h : Record) (k : ℕ) → outside k ≡ false → OnRecord t x h → OnRecord t (marked x k) (afterSet h k Mark.Done)
+  set-noted : (x : Session) (h : Record) (k : ℕ) → outside k ≡ false → OnRecord t x h → OnRecord t (marked x k) (storedUnder h k)
   set-noted x h k e on =
       record {
         present = rw (marked-present x k) (on .present);
@@ -178,7 +181,7 @@ module _ (t : Table) (valid : tableFault t ≡ 0) where
       }
 
   -- LAW: one call keeps session and record together
-  pub call-noted : (x : Session) (h : Record) (c : Call) → OnRecord t x h → OnRecord t (called t x c) (noted t x h c)
+  pub call-noted : (x : Session) (h : Record) (c : Call) → OnRecord t x h → OnRecord t (called t x c) (noted h c (callAnswer t x c))
   unfolding stepped markSet returned setRefusal returnRefusal
   call-noted x h (Step mask) on =
       step-noted x h mask (stepTick t x mask .state) (stepTick t x mask .answer)
@@ -187,14 +190,14 @@ module _ (t : Table) (valid : tableFault t ≡ 0) where
       rw q (kept-more t valid (h .list) (x .present) mask (on .present) (ap (λ r. r .answer) (sym q) ∙ e)))
       on
   call-noted x h (SetMark k) on =
-      let Both : Marked → Type 0 = λ r. OnRecord t (r .session) (afterSet h k (r .answer)) in
+      let Both : Called → Type 0 = λ r. OnRecord t (r .session) (noted h (SetMark k) (r .answer)) in
       unless (setRefusal t x k) x (marked x k)
       (λ z e.
       let free = none-of (sessionFault t x) (beyond k) z in
       subst Both (sym e) (set-noted x h k (not-beyond k (free .1)) on))
       (λ e. subst Both (sym e) on)
   call-noted x h (ReturnTo k) on =
-      let Both : Marked → Type 0 = λ r. OnRecord t (r .session) (afterReturn h k (r .answer)) in
+      let Both : Called → Type 0 = λ r. OnRecord t (r .session) (noted h (ReturnTo k) (r .answer)) in
       unless (returnRefusal t x k) x (moved x (markAt x k .state))
       (λ z e.
       let free = none-of (sessionFault t x) (firstOf (beyond k) (neverSet x k)) z in
@@ -205,7 +208,7 @@ module _ (t : Table) (valid : tableFault t ≡ 0) where
   calls-noted : (x : Session) (h : Record) (cs : List Call) → OnRecord t x h → OnRecord t (sessionAfter t x cs) (recordAfter t x h cs)
   unfolding sessionAfter recordAfter
   calls-noted x h [] on = on
-  calls-noted x h (c ∷ cs) on = calls-noted (called t x c) (noted t x h c) cs (call-noted x h c on)
+  calls-noted x h (c ∷ cs) on = calls-noted (called t x c) (noted h c (callAnswer t x c)) cs (call-noted x h c on)
 
   -- the empty list keeps the start state
   fresh-noted : OnRecord t fresh blank
@@ -240,20 +243,19 @@ module _ (t : Table) (valid : tableFault t ≡ 0) where
   unfolding stepTick
   step-is-tick x mask e = rw e
 
-  not-thirteen : (x : Session) (h : Record) (c : Call) → OnRecord t x h → callRefusal t x c ≡ 13 → ⊥
+  not-thirteen : (x : Session) (h : Record) (c : Call) → OnRecord t x h → callAnswer t x c ≡ Refused 13 → ⊥
   unfolding stepped markSet returned setRefusal returnRefusal
   not-thirteen x h (Step mask) on e =
       let proper = kept-proper t valid (h .list) (x .present) (on .present) in
       tick-not (ticked t (x .present) mask .answer) (λ r q. tick-eleven t valid (x .present) mask r proper q)
-      (ap (λ r. tickRefusal (r .answer)) (sym (step-is-tick x mask (proper-session x h on))) ∙ e)
+      (ap (λ r. stepAnswer (r .answer)) (sym (step-is-tick x mask (proper-session x h on))) ∙ e)
   not-thirteen x h (SetMark k) on e =
-      set-not k (ap (λ r. firstOf r (beyond k)) (sym (proper-session x h on)) ∙ sym (refusal-told (setRefusal t x k) x (marked x k)) ∙ e)
+      set-not k (ap (λ r. firstOf r (beyond k)) (sym (proper-session x h on)) ∙ refusal-told (setRefusal t x k) 13 x (marked x k) e)
   not-thirteen x h (ReturnTo k) on e =
       return-not x k
       (ap (λ r. firstOf r (firstOf (beyond k) (neverSet x k))) (sym (proper-session x h on))
-      ∙ sym (refusal-told (returnRefusal t x k) x (moved x (markAt x k .state)))
-      ∙ e)
+      ∙ refusal-told (returnRefusal t x k) 13 x (moved x (markAt x k .state)) e)
 
   -- THEOREM: from a fresh session no call answers 13
-  pub no-thirteen : (cs : List Call) (c : Call) → callRefusal t (sessionAfter t fresh cs) c ≡ 13 → ⊥
+  pub no-thirteen : (cs : List Call) (c : Call) → callAnswer t (sessionAfter t fresh cs) c ≡ Refused 13 → ⊥
   no-thirteen cs c = not-thirteen (sessionAfter t fresh cs) (recordAfter t fresh blank cs) c (record-law cs)

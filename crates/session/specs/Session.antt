@@ -16,10 +16,12 @@ use Rattle.tasks.specs.declared.tick.TickAnswer.the-variants as Tick
 use Rattle.tasks.specs.declared.tick.Ticked.{Ticked}
 use Rattle.session.specs.declared.marks.Mark.{Mark}
 use Rattle.session.specs.declared.marks.Session.{Session}
-use Rattle.session.specs.declared.calls.MarkAnswer.{MarkAnswer}
-use Rattle.session.specs.declared.calls.MarkAnswer.the-variants.{Done, Refused}
+use Rattle.session.specs.declared.calls.SessionAnswer.{SessionAnswer}
+use Rattle.session.specs.declared.calls.SessionAnswer.the-variants.{Done, Missed, Refused}
+use Rattle.session.specs.declared.calls.Call.{Call}
+use Rattle.session.specs.declared.calls.Call.the-variants.{Step, SetMark, ReturnTo}
 use Rattle.session.specs.declared.calls.Stepped.{Stepped}
-use Rattle.session.specs.declared.calls.Marked.{Marked}
+use Rattle.session.specs.declared.calls.Called.{Called}
 
 -- ---- the session: "a present state and eight marks, first empty"
 
@@ -102,18 +104,42 @@ marked x k =
     }
 
 -- a refusal with the session given, or Done with the one after the call
-abbrev pub unlessRefused : ℕ → Session → Session → Marked
+abbrev pub unlessRefused : ℕ → Session → Session → Called
 unlessRefused r x x′ = pick (ltb 0 r) (record { answer = Refused r; session = x }) (record { answer = Done; session = x′ })
 
-unfoldable pub markSet : Table → Session → ℕ → Marked
+unfoldable pub markSet : Table → Session → ℕ → Called
 markSet t x k = unlessRefused (setRefusal t x k) x (marked x k)
 
 -- the mark that is returned to stays
-unfoldable pub returned : Table → Session → ℕ → Marked
+unfoldable pub returned : Table → Session → ℕ → Called
 returned t x k = unlessRefused (returnRefusal t x k) x (moved x (markAt x k .state))
 
--- ---- the answer of the calls on marks in figures, as Answers.antt of `tasks` has them: kind 1 done, kind 0 with the refusal's number
+-- ---- any of the calls
 
-unfoldable pub markAnswer : MarkAnswer → List ℕ
-markAnswer Done = 1 ∷ []
-markAnswer (Refused r) = 0 ∷ r ∷ []
+-- a step's answer as that of any call: a tick with a next state is Done
+abbrev pub stepAnswer : TickAnswer → SessionAnswer
+stepAnswer Tick.Next = Done
+stepAnswer Tick.Missed = Missed
+stepAnswer (Tick.Refused r) = Refused r
+
+abbrev pub withoutState : Stepped → Called
+withoutState r = record { answer = stepAnswer (r .ticked .answer); session = r .session }
+
+-- a call's outcome: its answer, and the session after it
+abbrev pub outcome : Table → Session → Call → Called
+outcome t x (Step mask) = withoutState (stepped t x mask)
+outcome t x (SetMark k) = markSet t x k
+outcome t x (ReturnTo k) = returned t x k
+
+abbrev pub callAnswer : Table → Session → Call → SessionAnswer
+callAnswer t x c = outcome t x c .answer
+
+abbrev pub called : Table → Session → Call → Session
+called t x c = outcome t x c .session
+
+-- ---- the answer in figures, as Answers.antt of `tasks` has them: kind 1 done, kind 2 Missed, kind 0 with the refusal's number
+
+unfoldable pub sessionAnswer : SessionAnswer → List ℕ
+sessionAnswer Done = 1 ∷ []
+sessionAnswer Missed = 2 ∷ []
+sessionAnswer (Refused r) = 0 ∷ r ∷ []

@@ -1,7 +1,7 @@
 // The calls on a session, for any table, session, mask and mark number. Each hands back the session after it.
 ghost use mathlib.Core.Path.{_≡_};
 ghost use Rattle.tasks.specs.Answers.{tickAnswer};
-ghost use Rattle.session.specs.Session.{firstOf, sessionFault, beyond, neverSet, setRefusal, returnRefusal, stepTick, stepped, unlessRefused, markSet, returned, markAnswer};
+ghost use Rattle.session.specs.Session.{firstOf, sessionFault, beyond, neverSet, setRefusal, returnRefusal, stepTick, stepped, unlessRefused, markSet, returned, withoutState, callAnswer, called, sessionAnswer};
 use crate::marks::Session;
 use crate::marks::outside;
 use tasks::Table;
@@ -14,14 +14,22 @@ pub struct Stepped {
     pub session: Session,
 }
 
-// The answer of the calls on marks; the session after the call travels beside it.
-pub enum MarkAnswer {
+// The three calls, with a mask or the number of a mark.
+pub enum Call {
+    Step(u8),
+    SetMark(u8),
+    ReturnTo(u8),
+}
+
+// The answer of a call; the session after it travels beside it. Only a step is Missed.
+pub enum SessionAnswer {
     Done,
+    Missed,
     Refused(u8),
 }
 
-pub struct Marked {
-    pub answer: MarkAnswer,
+pub struct Called {
+    pub answer: SessionAnswer,
     pub session: Session,
 }
 
@@ -40,18 +48,41 @@ fn beyond(k: u8) -> u8
 }
 
 // A refusal with the session given, or Done with the one after the call.
-fn unless_refused(why: u8, given: Session, after: Session) -> Marked
+fn unless_refused(why: u8, given: Session, after: Session) -> Called
     ensures { λ r. ⌜ r ≡ unlessRefused why given after ⌝ }
 {
     if 0 < why {
-        return Marked {
-            answer: MarkAnswer::Refused(why),
+        return Called {
+            answer: SessionAnswer::Refused(why),
             session: given,
         };
     }
-    Marked {
-        answer: MarkAnswer::Done,
+    Called {
+        answer: SessionAnswer::Done,
         session: after,
+    }
+}
+
+// A step's answer as that of any call, without the tick's state.
+fn without_state(r: Stepped) -> Called
+    ensures { λ q. ⌜ q ≡ withoutState r ⌝ }
+{
+    let session = r.session;
+    let ticked = r.ticked;
+    let answer = ticked.answer;
+    match answer {
+        TickAnswer::Next => Called {
+            answer: SessionAnswer::Done,
+            session,
+        },
+        TickAnswer::Missed => Called {
+            answer: SessionAnswer::Missed,
+            session,
+        },
+        TickAnswer::Refused(n) => Called {
+            answer: SessionAnswer::Refused(n),
+            session,
+        },
     }
 }
 
@@ -113,8 +144,9 @@ impl Session {
         let ticked = self.step_tick(t, mask);
         let answer = ticked.answer;
         let state = ticked.state;
+        let moved = self.moved(state);
         let session = match answer {
-            TickAnswer::Next => self.moved(state),
+            TickAnswer::Next => moved,
             TickAnswer::Missed => self,
             TickAnswer::Refused(_) => self,
         };
@@ -122,8 +154,8 @@ impl Session {
     }
 
     // Set mark k: the present state is stored under it.
-    pub fn set_mark(self, t: Table, k: u8) -> Marked
-        ensures { λ r. ⌜ (markAnswer (r .answer) ≡ markAnswer (markSet t self k .answer)) × (r .session ≡ markSet t self k .session) ⌝ }
+    pub fn set_mark(self, t: Table, k: u8) -> Called
+        ensures { λ r. ⌜ (sessionAnswer (r .answer) ≡ sessionAnswer (markSet t self k .answer)) × (r .session ≡ markSet t self k .session) ⌝ }
     {
         let why = self.set_refusal(t, k);
         let after = self.marked(k);
@@ -131,13 +163,24 @@ impl Session {
     }
 
     // Return to mark k, which stays: its state is the present one.
-    pub fn return_to(self, t: Table, k: u8) -> Marked
-        ensures { λ r. ⌜ (markAnswer (r .answer) ≡ markAnswer (returned t self k .answer)) × (r .session ≡ returned t self k .session) ⌝ }
+    pub fn return_to(self, t: Table, k: u8) -> Called
+        ensures { λ r. ⌜ (sessionAnswer (r .answer) ≡ sessionAnswer (returned t self k .answer)) × (r .session ≡ returned t self k .session) ⌝ }
     {
         let why = self.return_refusal(t, k);
         let mark = self.mark(k);
         let present = mark.state;
         let marks = self.marks;
         unless_refused(why, self, Session { present, marks })
+    }
+
+    // Any of the three calls.
+    pub fn call(self, t: Table, call: Call) -> Called
+        ensures { λ r. ⌜ (sessionAnswer (r .answer) ≡ sessionAnswer (callAnswer t self call)) × (r .session ≡ called t self call) ⌝ }
+    {
+        match call {
+            Call::Step(mask) => without_state(self.step(t, mask)),
+            Call::SetMark(k) => self.set_mark(t, k),
+            Call::ReturnTo(k) => self.return_to(t, k),
+        }
     }
 }

@@ -2,8 +2,9 @@
 mod calls;
 mod marks;
 
-pub use calls::MarkAnswer;
-pub use calls::Marked;
+pub use calls::Call;
+pub use calls::Called;
+pub use calls::SessionAnswer;
 pub use calls::Stepped;
 pub use marks::Mark;
 pub use marks::Session;

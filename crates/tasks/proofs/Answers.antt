@@ -23,10 +23,10 @@ use Rattle.tasks.specs.declared.play.ReplayAnswer.the-variants as Replay
 use Rattle.tasks.specs.declared.play.Replayed.{Replayed}
 
 -- the figures of two kinds are not the same
-other : {X : Type 0} {a b : ℕ} {l k : List ℕ} → (a ≡ b → ⊥) → a ∷ l ≡ b ∷ k → X
+pub other : {X : Type 0} {a b : ℕ} {l k : List ℕ} → (a ≡ b → ⊥) → a ∷ l ≡ b ∷ k → X
 other differ e = absurd (differ (ap (λ l. getD l 0 0) e))
 
-second : {a b x y : ℕ} {l k : List ℕ} → x ∷ a ∷ l ≡ y ∷ b ∷ k → a ≡ b
+pub second : {a b x y : ℕ} {l k : List ℕ} → x ∷ a ∷ l ≡ y ∷ b ∷ k → a ≡ b
 second e = ap (λ l. getD l 1 0) e
 
 third : {a b u v x y : ℕ} {l k : List ℕ} → x ∷ u ∷ a ∷ l ≡ y ∷ v ∷ b ∷ k → a ≡ b

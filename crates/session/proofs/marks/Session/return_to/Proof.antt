@@ -1,5 +1,5 @@
 use Rattle.session.specs.Session.{returned}
-use Rattle.session.proofs.CallLaws.{marked-told}
+use Rattle.session.proofs.CallLaws.{called-told}
 use borrow.Author.Needs.{needs}
 use Rattle.session.proofs.marks.Session.return_to.Statement.{statement}
 use Rattle.session.proofs.marks.Session.return_to.Tie as tie
@@ -17,7 +17,7 @@ returns : tie.Need-returns
 unfolding returned
 returns c =
     let h = c .before .before .before in
-    marked-told (rw (← h .before .return-refusal .ensures, ← h .mark .ensures) (c .unless-refused .ensures))
+    called-told (rw (← h .before .return-refusal .ensures, ← h .mark .ensures) (c .unless-refused .ensures))
 
 pub return-to-spec : {M : Type 1} → statement M
 return-to-spec =

@@ -1,5 +1,5 @@
 use Rattle.session.specs.Session.{markSet}
-use Rattle.session.proofs.CallLaws.{marked-told}
+use Rattle.session.proofs.CallLaws.{called-told}
 use borrow.Author.Needs.{needs}
 use Rattle.session.proofs.marks.Session.set_mark.Statement.{statement}
 use Rattle.session.proofs.marks.Session.set_mark.Tie as tie
@@ -15,7 +15,7 @@ unless-refused-requires c κs = search needs
 
 returns : tie.Need-returns
 unfolding markSet
-returns c = marked-told (rw (← c .before .before .set-refusal .ensures, ← c .before .marked .ensures) (c .unless-refused .ensures))
+returns c = called-told (rw (← c .before .before .set-refusal .ensures, ← c .before .marked .ensures) (c .unless-refused .ensures))
 
 pub set-mark-spec : {M : Type 1} → statement M
 set-mark-spec =
