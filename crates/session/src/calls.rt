@@ -168,9 +168,8 @@ impl Session {
     {
         let why = self.return_refusal(t, k);
         let mark = self.mark(k);
-        let present = mark.state;
-        let marks = self.marks;
-        unless_refused(why, self, Session { present, marks })
+        let after = self.at_mark(mark);
+        unless_refused(why, self, after)
     }
 
     // Any of the three calls.

@@ -1,6 +1,7 @@
 // A session by value: its present state and its marks.
 ghost use mathlib.Core.Path.{_≡_};
 ghost use Prim.Native.Nat.{_<_};
+ghost use mathlib.Core.Bool.{true};
 ghost use Rattle.lists.specs.Lists.{any};
 ghost use Rattle.tasks.specs.Table.{outside};
 ghost use Rattle.session.specs.Session.{fresh, markAt, marked, moved, improperMark, improperSession};
@@ -24,6 +25,17 @@ pub(crate) fn outside(k: u8) -> bool
     ensures { λ r. ⌜ r ≡ outside k ⌝ }
 {
     (k < 1) | (8 < k)
+}
+
+// A mark that is set.
+fn mark_of(state: State) -> Mark
+    ensures { λ r. ⌜ r ≡ record { set = true; state = state } ⌝ }
+{
+    let stored = state;
+    Mark {
+        set: true,
+        state: stored,
+    }
 }
 
 impl Session {
@@ -68,6 +80,18 @@ impl Session {
         }
     }
 
+    // The session at the state of a mark. The mark stays.
+    pub(crate) fn at_mark(self, mark: Mark) -> Session
+        ensures { λ r. ⌜ r ≡ moved self (mark .state) ⌝ }
+    {
+        let present = mark.state;
+        let kept = self.marks;
+        Session {
+            present,
+            marks: kept,
+        }
+    }
+
     // The session with its present state under mark k, for k outside 1 to 8 the session as it is.
     pub(crate) fn marked(self, k: u8) -> Session
         ensures { λ r. ⌜ r ≡ marked self k ⌝ }
@@ -76,12 +100,10 @@ impl Session {
             return self;
         }
         let i = (k - 1) as usize;
-        let stored = self.present;
+        let present = self.present;
+        let mark = mark_of(present);
         let mut x = self;
-        x.marks[i] = Mark {
-            set: true,
-            state: stored,
-        };
+        x.marks[i] = mark;
         x
     }
 

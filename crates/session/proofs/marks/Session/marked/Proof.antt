@@ -1,7 +1,6 @@
-use mathlib.Core.Path.{_≡_, sym, ap, _∙_}
+use mathlib.Core.Path.{sym, ap, _∙_}
 use mathlib.Core.Bool.{true}
-use lib.ListN.{length}
-use Rattle.session.specs.Session.{empty, moved, marked}
+use Rattle.session.specs.Session.{empty, marked}
 use Rattle.session.proofs.MarkLaws.{within, length-mapped, stores-none, stores-one}
 use native.Mathlib.Omega.{arith}
 use borrow.Author.Needs.{needs}
@@ -24,19 +23,35 @@ sub-i c = omega (arith, within (c .before .before .args .k) (sym (c .before .out
 cast-i : tie.Need-cast-i
 cast-i c = search needs
 
-mul-t9 : tie.Need-mul-t9
-mul-t9 c = search needs
+mark-of-requires : tie.Need-mark-of-requires
+mark-of-requires c κs = search needs
 
-element-set-from-x : tie.Need-element-set-from-x
-element-set-from-x c = omega (arith, within (c .before .before .before .args .k) (sym (c .before .before .outside .ensures) ∙ c .before .if1 .left))
+mul-mark : tie.Need-mul-mark
+mul-mark c = search needs
+
+element-set-from-mark : tie.Need-element-set-from-mark
+element-set-from-mark c =
+    let h = c .before .before .before in
+    omega (arith, within (h .before .args .k) (sym (h .outside .ensures) ∙ c .before .before .if1 .left))
 
 returns-2 : tie.Need-returns-2
 unfolding marked
 returns-2 c =
-    let x = c .before .before .before .args .self in
-    ap (λ marks. record { present = x .present; marks = marks })
-    (stores-one empty (record { set = true; state = x .present }) (x .marks) (search (needs, length-mapped)) (c .before .before .before .args .k) (sym (c .before .before .outside .ensures) ∙ c .before .if1 .left))
+    let h = c .before .before .before in
+    let x = h .before .args .self in
+    rw (c .mark-of .ensures)
+    (ap (λ marks. record { present = x .present; marks = marks })
+    (stores-one empty (record { set = true; state = x .present }) (x .marks) (search (needs, length-mapped)) (h .before .args .k) (sym (h .outside .ensures) ∙ c .before .before .if1 .left)))
 
 pub marked-spec : {M : Type 1} → statement M
 marked-spec =
-    tie.close (tie.spec outside-requires returns sub-i cast-i mul-t9 element-set-from-x returns-2)
+    tie.close
+    (tie.spec
+    outside-requires
+    returns
+    sub-i
+    cast-i
+    mark-of-requires
+    mul-mark
+    element-set-from-mark
+    returns-2)
