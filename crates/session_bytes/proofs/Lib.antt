@@ -1,0 +1,3 @@
+-- Laws that several proofs cite, and the theorems.
+pub mod SpaceLaws
+pub mod CallLaws
