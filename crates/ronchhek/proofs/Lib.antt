@@ -2,6 +2,7 @@
 pub mod VerdictLaws
 pub mod ReplayLaws
 pub mod ServiceLaws
+pub mod SessionLaws
 pub mod TableLaws
 pub mod PracticeLaws
 pub mod FileLaws

@@ -33,7 +33,8 @@ pub step-is :
     → a ≡ b
 step-is e = ap₂ (λ r x. record { ticked = r; session = x }) (tick-is (e .0, e .1)) (e .2)
 
-session-answer-is : {a b : SessionAnswer} → sessionAnswer a ≡ sessionAnswer b → a ≡ b
+-- LAW: a call's answer is told by its figures
+pub session-answer-is : {a b : SessionAnswer} → sessionAnswer a ≡ sessionAnswer b → a ≡ b
 unfolding sessionAnswer
 session-answer-is {a = Done} {b = Done} e = refl
 session-answer-is {a = Done} {b = Missed} e = other (λ h. omega arith) e
