@@ -759,8 +759,8 @@ class Answer(NamedTuple):
 
 
 def judge_session(table: Table, session: Session) -> None:
-    """"Refusals by cause": 4 to 7. Document 02, §8: then 13 for a session with an improper state,
-    present or marked."""
+    """Section "Refusals by cause", 4 to 7. Document 02, §8: then 13 for a session with an improper
+    state, present or marked."""
     fault = table_fault(table)
     if fault:
         raise Refused(fault)
