@@ -31,6 +31,10 @@ kind #, whose line is the vector's label. The kinds:
                                 totals, and releases, ran and left of each of eight tasks
     z  a sheet, a length, masks totals, the number that the call for C programs returns, and the whole totals
                                 space in hexadecimal
+    x  a table, session, calls  session, and for each call next, missed, done or refused R, after a step's the state
+                                in hexadecimal; then the session in hexadecimal
+    y  a sheet, a space, calls  calls, and for each the number that the call for C programs returns; then the whole
+                                space in hexadecimal
 
 A table is 27 bytes: policy, m, n, eight C, eight D, eight P. A state is 16 bytes: c and p of each of
 eight tasks, printed in that order. An output is filled with (i * 37 + 11) mod 256 at place i before
@@ -56,6 +60,12 @@ sheet after its length in a byte.
 
 A sheet, a length and masks are the sheet's length in a byte, the sheet, the length of the totals space in a
 byte, and the masks up to the body's end. The totals space is filled as the writer's output.
+
+A session is 145 bytes: a byte whose bit i - 1 is set where mark i is, the present state, and the state under each of
+eight marks, also under those that are not set, whose bytes stay. A sheet and a space are the sheet's length in a byte,
+the sheet, the length of the space in a byte, and its bytes, at whose front a session stands. Calls are 2 bytes each up
+to the body's end: 0 step, 1 mark or 2 return, and the mask or the mark. The state after a step's answer is the tick's:
+the next state, the state of the miss, or the present state where the step is refused.
 """
 import sys
 from contextlib import contextmanager
@@ -67,10 +77,10 @@ from typing import Callable, Iterable, Iterator, NamedTuple
 sys.dont_write_bytecode = True
 
 import reference as ref
-from reference import START, State, Table, number_bytes, sheet_bytes, table_of
+from reference import START, Call, Session, State, Table, number_bytes, sheet_bytes, table_of
 
 # The kinds whose vectors are made.
-KINDS = "nstwrdmkpvqlecfuz"
+KINDS = "nstwrdmkpvqlecfuzxy"
 
 FOLDER = Path(__file__).resolve().parent.parent / "crates" / "vectors"
 LONGEST_BODY = 4096  # what the program has room for
@@ -317,6 +327,41 @@ def totals_vector(label: str, sheet: bytes, masks: bytes, length: int) -> Vector
     number, after = ref.service_call(sheet, masks, filled(length, 11, 37))
     body = bytes([len(sheet)]) + sheet + bytes([length]) + masks
     return Vector("z", label, body, f"totals {number} {after.hex() or 'empty'}")
+
+
+CALLS = ("step", "mark", "return")  # by the first byte of a call
+
+
+def call_bytes(calls: list[Call]) -> bytes:
+    return bytes(x for call in calls for x in (CALLS.index(call.name), call.given))
+
+
+def call_line(table: Table, session: Session, call: Call) -> tuple[str, Session]:
+    """The answer of a call, with the state beside a step's; and the session after it."""
+    answer = ref.answered(table, session, call)
+    line = f" refused {answer.refusal}" if answer.refusal else f" {answer.answer}"
+    if call.name == "step":
+        line += f" {ref.state_bytes(answer.state).hex()}"
+    return line, answer.session
+
+
+def session_vector(label: str, table: Table, space: bytes, calls: list[Call]) -> Vector:
+    assert len(space) == ref.SESSION, label
+    session, line = ref.session_of(space), "session"
+    for call in calls:
+        answer, session = call_line(table, session, call)
+        line += answer
+    body = table_bytes(table) + space + call_bytes(calls)
+    return Vector("x", label, body, f"{line} {ref.with_session(space, session).hex()}")
+
+
+def session_call_vector(label: str, sheet: bytes, space: bytes, calls: list[Call]) -> Vector:
+    body = bytes([len(sheet)]) + sheet + bytes([len(space)]) + space + call_bytes(calls)
+    line = "calls"
+    for call in calls:
+        number, space = ref.session_call(sheet, space, call)
+        line += f" {number}"
+    return Vector("y", label, body, f"{line} {space.hex() or 'empty'}")
 
 
 # ----------------------------------------------------------------------
@@ -1750,6 +1795,184 @@ def totals_vectors() -> Iterator[Vector]:
 
 
 # ----------------------------------------------------------------------
+# Sessions
+
+BLANK = bytes(ref.SESSION)  # a fresh session
+
+# Four tasks on two cores that miss under each policy, most of whose lists do after a few ticks.
+STRAINED = [(1, 1, 2), (2, 3, 4), (2, 2, 3), (3, 5, 6)]
+
+# From a fresh session: every refusal of a mark, both causes of 11, and each call done.
+EACH_CALL = [Call(name, given) for name in ("return", *CALLS) for given in (255, 0, 1, 1, 8, 9)]
+
+
+class Walk(NamedTuple):
+    """Calls on a session, whose bytes are given, and the table that they are called with."""
+
+    label: str
+    table: Table
+    space: bytes
+    calls: list[Call]
+
+
+def drawn_call(dice: Dice, table: Table, session: Session, unset: int) -> Call:
+    """Most are done. A mark is set where nothing is late if nothing more is released, so that a walk can go on from it;
+    one mark is never set."""
+    stray, kind = dice.below(6) == 0, dice.below(20)
+    if kind < 3 and is_calm(table, session.present):
+        mark = dice.between(1, 8)
+        return Call("mark", (0, 9, 255)[dice.below(3)] if stray or mark == unset else mark)
+    if kind < 6:
+        return Call("return", (0, 9, 255, unset)[dice.below(4)] if stray else dice.between(1, 8))
+    return Call("step", dice.below(256) if stray else dice.legal_mask(table, session.present))
+
+
+def drawn_calls(dice: Dice, table: Table, session: Session, length: int) -> list[Call]:
+    calls, unset = [], dice.between(1, 8)
+    for _ in range(length):
+        calls.append(drawn_call(dice, table, session, unset))
+        session = ref.answered(table, session, calls[-1]).session
+    return calls
+
+
+def met_on_record(table: Table, calls: list[Call]) -> set[tuple[str, str, int]]:
+    """What calls from a fresh session answer. The list on record reaches the present state after each call, and the list stored
+    under each mark the state there at the end: a vector for which they do not is not made."""
+    session, record, met = ref.FRESH, ref.BLANK, set()
+    for call in calls:
+        answer = ref.answered(table, session, call)
+        session, record = answer.session, ref.recorded(record, call, answer.answer)
+        assert ref.reaches(table, record.masks, session.present), (table, calls, call)
+        met.add((call.name, answer.answer, answer.refusal))
+    assert ref.is_on_record(table, session, record), (table, calls)
+    return met
+
+
+@lru_cache(maxsize=None)
+def long_walk(policy: int) -> Walk:
+    """300 calls from a fresh session: returns to marks that there are not, or that are not set, a list that misses, from a mark
+    and back to it, and then drawn ones, with marks set anew."""
+    table = table_of(policy, 2, STRAINED)
+    calls = [Call("return", mark) for mark in (0, 9, 255, 1)] + [Call("mark", 1)]
+    calls += [Call("step", mask) for mask in shortest_miss(table)] + [Call("return", 1)]
+    marked = Session(START, (START, *ref.FRESH.marks[1:]))  # what these lead to
+    calls += drawn_calls(Dice(60 + policy), table, marked, 300 - len(calls))
+    assert met_on_record(table, calls) == {
+        *(("step", "next", 0), ("step", "missed", 0), ("step", "refused", 11)),
+        *(("mark", "done", 0), ("mark", "refused", 15)),
+        *(("return", "done", 0), ("return", "refused", 15), ("return", "refused", 16)),
+    }
+    marks = [call for call in calls if call.name == "mark" and 1 <= call.given <= 8]
+    assert len(set(marks)) < len(marks)
+    return Walk(f"{NAMES[policy]} {STRAINED}, 300 calls", table, BLANK, calls)
+
+
+def every_mark(policy: int) -> Walk:
+    """A task more released at each tick, with a mark after it; then from each mark on, the last one first, and back."""
+    table = table_of(policy, 3, [(i, 34 - 2 * i, 42 - i) for i in range(1, 9)])
+    there = [call for i in range(1, 9) for call in (Call("step", 1 << (i - 1)), Call("mark", i))]
+    back = [call for i in range(8, 0, -1) for call in (Call("return", i), Call("step", 0), Call("return", 9 - i))]
+    walk = Walk(f"{NAMES[policy]}: all eight marks", table, BLANK, there + back)
+    assert met_on_record(table, walk.calls) == {("step", "next", 0), ("mark", "done", 0), ("return", "done", 0)}
+    return walk
+
+
+def answers_of(walk: Walk) -> list[str]:
+    """What the calls of a walk answer, without the bytes of the session after them."""
+    return session_vector(*walk).line.split()[:-1]
+
+
+def garbage_walk(policy: int) -> Walk:
+    """Bytes under marks that are not set, which are no proper states: they change no answer."""
+    label, table, _, calls = long_walk(policy)
+    garbage = BLANK[:17] + filled(ref.SESSION - 17, 201, 37)
+    assert not any(ref.is_proper(table, state) for state in ref.session_of(b"\xff" + garbage[1:]).marks)
+    walk = Walk(f"{label}, the first 60, on garbage", table, garbage, calls[:60])
+    assert answers_of(walk) == answers_of(walk._replace(space=BLANK))
+    return walk
+
+
+def with_states(flags: int, states: list[State], others: bytes = BLANK) -> bytes:
+    """A session of a present state and eight more, of which those that the flags name are under set marks; the bytes of the
+    others are those of another session."""
+    marks = tuple(state if flags >> i & 1 else None for i, state in enumerate(states[1:]))
+    return ref.with_session(others, Session(states[0], marks))
+
+
+def improper_walks() -> Iterator[Walk]:
+    """13, for the present state and for each mark, by each cause; before 11, 15 and 16."""
+    three, late = table_of(1, 2, [(2, 9, 9), (4, 9, 9), (4, 9, 9)]), state_of((2, 1))
+    proper = [state_of((2, 9), (4 - i % 4, 9 - i % 2)) for i in range(9)]
+    for place, name in enumerate(("the present state", *(f"mark {i}" for i in range(1, 9)))):
+        states = proper[:place] + [late] + proper[place + 1 :]
+        yield Walk(f"13: {name}", three, with_states(255, states), EACH_CALL)
+    yield Walk("13: the present state, no mark set", three, with_states(0, [late] * 9), EACH_CALL)
+    yield Walk("13: mark 8, no other set", three, with_states(128, [START] + [late] * 8), EACH_CALL)
+    unset = b"\x55" + with_states(0xAA, [START] + [late] * 8)[1:]
+    yield Walk("states that are not proper under marks that are not set", three, unset, EACH_CALL)
+    causes = (state_of((3, 9)), state_of((0, 10)), state_of((0, 0), (0, 0), (0, 0), (1, 0)), state_of(*[(0, 0)] * 7, (0, 1)))
+    for place, (cause, wrong) in enumerate(zip(("c above C", "p above P", "c after the nth", "p after the nth"), causes)):
+        states = [wrong if i == 2 * place else START for i in range(9)]
+        yield Walk(f"13: {cause}", three, with_states(255, states), EACH_CALL)
+    started = state_of((1, 8), (3, 8), (3, 8))
+    for policy, name in enumerate(NAMES):
+        space = with_states(4, [*[START] * 3, started, *[START] * 5])
+        yield Walk(f"{name}: three started on two cores, under mark 3", changed(three, policy=policy), space, EACH_CALL)
+
+
+def drawn_walks(seed: int, count: int) -> Iterator[Walk]:
+    """From drawn sessions of proper states, reached or not, with some marks set, and bytes under the others."""
+    dice = Dice(seed)
+    for number in range(count):
+        table = dice.table((4, 12, 200)[number % 3])
+        states = [dice.proper_state(table) for _ in range(9)]
+        space = with_states(dice.below(256), states, filled(ref.SESSION, dice.below(256), 91))
+        yield Walk(f"drawn {number + 1}", table, space, drawn_calls(dice, table, ref.session_of(space), 40))
+
+
+def session_vectors() -> Iterator[Vector]:
+    for policy in ref.POLICIES:
+        yield from (session_vector(*walk) for walk in (long_walk(policy), every_mark(policy), garbage_walk(policy)))
+    yield from (session_vector(*walk) for walk in improper_walks())
+    # 4 to 7 come before 13
+    two, wrong = table_of(0, 1, TWO), with_states(255, [state_of((9, 9))] * 9)
+    for label, table in (
+        ("policy 5", changed(two, policy=5)),
+        ("m 0", changed(two, m=0)),
+        ("m 9", changed(two, m=9)),
+        ("n 0", changed(two, n=0)),
+        ("n 9", changed(two, n=9)),
+        ("C above D", changed(two, C=entry(two.C, 1, 3))),
+        ("an entry after the nth", changed(two, P=entry(two.P, 7, 1))),
+        ("all wrong", Table(5, 0, 0, (1,) * 8, (0,) * 8, (0,) * 8)),
+    ):
+        yield session_vector(f"{label}, and no state proper", table, wrong, EACH_CALL)
+    yield session_vector("no calls", two, wrong, [])
+    yield session_vector("each call", two, BLANK, EACH_CALL)
+    yield from (session_vector(*walk) for walk in drawn_walks(6, 9))
+
+
+def session_call_vectors() -> Iterator[Vector]:
+    for policy in ref.POLICIES:
+        for label, table, space, calls in (long_walk(policy), every_mark(policy), garbage_walk(policy)):
+            yield session_call_vector(label, sheet_bytes(table), space, calls)
+    for label, table, space, calls in (*islice(improper_walks(), 12), *drawn_walks(7, 6)):
+        yield session_call_vector(label, sheet_bytes(table), space, calls)
+    # 12 comes before 13: a session that is too short is not read. Bytes after the 145th stay
+    wrong, garbage = with_states(255, [state_of((9, 9))] * 9), filled(255, 11, 37)
+    for length in (0, 1, 17, 144):
+        yield session_call_vector(f"a space of {length} bytes, and no state proper", PAPER, wrong[:length], EACH_CALL)
+    for length in (145, 146, 200, 255):
+        yield session_call_vector(f"a space of {length} bytes", PAPER, (BLANK[:17] + garbage[17:])[:length], EACH_CALL)
+    yield session_call_vector("146 bytes, and no state proper", PAPER, wrong + b"\0", EACH_CALL)
+    # a sheet's refusal comes before 12 and 13
+    for number, sheet in refused_sheets(PAPER):
+        for space, name in ((wrong[:144], "144 bytes"), (wrong, "no state proper")):
+            yield session_call_vector(f"{number}: {name}", sheet, space, EACH_CALL)
+    yield session_call_vector("no sheet, no space, no calls", b"", b"", [])
+
+
+# ----------------------------------------------------------------------
 # The files
 
 MAKERS = {
@@ -1770,6 +1993,8 @@ MAKERS = {
     "f": file_vectors,
     "u": service_vectors,
     "z": totals_vectors,
+    "x": session_vectors,
+    "y": session_call_vectors,
 }
 
 

@@ -25,8 +25,8 @@ class Printed(NamedTuple):
 
 
 def run(command: list, given: bytes = b"", **options) -> Printed:
-    options = {"stdout": subprocess.PIPE, "timeout": 120, **options}
-    done = subprocess.run([str(part) for part in command], input=given, stderr=subprocess.PIPE, **options)
+    options = {"stdout": subprocess.PIPE, "timeout": 120, **({} if "stdin" in options else {"input": given}), **options}
+    done = subprocess.run([str(part) for part in command], stderr=subprocess.PIPE, **options)
     return Printed(done.returncode, done.stdout or b"", done.stderr)
 
 

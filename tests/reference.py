@@ -1,7 +1,7 @@
 """An independent implementation of the verdict engine's paper (document 01), in plain Python, and of
-six changes of document 02: its closed lists (§1), its policy 4, least slack first (§3), its order of
+seven changes of document 02: its closed lists (§1), its policy 4, least slack first (§3), its order of
 jobs that are equal otherwise, by age (§4), its totals of where the core time went (§5), its columns of
-the work space (§6), and its practice tables (§7).
+the work space (§6), its practice tables (§7), and its sessions with marks (§8).
 
 It is written from the papers alone and shares nothing with the library: it is slow, direct, and
 meant to be read beside them. Each function's docstring names the section that it follows.
@@ -390,6 +390,11 @@ def replay(table: Table, masks: bytes) -> Replayed:
     return Replayed("kept", 0, 0, state)
 
 
+def reaches(table: Table, masks: bytes, state: State) -> bool:
+    """Section "Replay": a list reaches a state when its answer is Kept with that state."""
+    return replay(table, masks) == ("kept", 0, 0, state)
+
+
 def replay_number(played: Replayed) -> int:
     """The call for C: kind x 2^56 + number x 2^48 + tick, with kind 1 Kept, 2 Missed, 0 refused, where
     the number is the refusal."""
@@ -718,6 +723,159 @@ def closed_number(sheet: bytes, file: bytes) -> int:
 
 
 # ----------------------------------------------------------------------
+# Marks in a session
+
+MARKS = 8
+SESSION = 1 + STATE * (1 + MARKS)  # bytes of a session
+
+
+class Session(NamedTuple):
+    """Document 02, §8: a present state and eight marks, each empty (None) or a state."""
+
+    present: State
+    marks: tuple[State | None, ...]
+
+
+FRESH = Session(START, (None,) * MARKS)
+
+
+class Call(NamedTuple):
+    """Document 02, §8: "step" with a mask, "mark", which sets a mark, or "return" to one. Marks are
+    counted from 1, as in the paper."""
+
+    name: str
+    given: int
+
+
+class Answer(NamedTuple):
+    """Document 02, §8: a step answers as the tick from the present state does, "next" or "missed" with
+    the tick's state; the other calls are "done". Or "refused", with the present state. And the session
+    after the call."""
+
+    answer: str
+    refusal: int
+    state: State
+    session: Session
+
+
+def judge_session(table: Table, session: Session) -> None:
+    """Section "Refusals by cause", 4 to 7. Document 02, §8: then 13 for a session with an improper
+    state, present or marked."""
+    fault = table_fault(table)
+    if fault:
+        raise Refused(fault)
+    marked = [state for state in session.marks if state is not None]
+    if not all(is_proper(table, state) for state in (session.present, *marked)):
+        raise Refused(13)
+
+
+def judge_mark(mark: int) -> None:
+    """Document 02, §8, refused after 13: 15, a mark outside 1 to 8."""
+    if not 1 <= mark <= MARKS:
+        raise Refused(15)
+
+
+def session_step(table: Table, session: Session, mask: int) -> Answer:
+    """Document 02, §8: the tick from the present state; after a miss the session stays where it was."""
+    judge_session(table, session)
+    missed, after = tick(table, session.present, mask)
+    if missed:
+        return Answer("missed", 0, after, session)
+    return Answer("next", 0, after, session._replace(present=after))
+
+
+def session_mark(table: Table, session: Session, mark: int) -> Answer:
+    """Document 02, §8: set mark, also one that was set before."""
+    judge_session(table, session)
+    judge_mark(mark)
+    marks = session.marks[: mark - 1] + (session.present,) + session.marks[mark:]
+    return Answer("done", 0, session.present, session._replace(marks=marks))
+
+
+def session_return(table: Table, session: Session, mark: int) -> Answer:
+    """Document 02, §8: return to mark, which stays set. Refusal 16, judged after 15: a mark never set."""
+    judge_session(table, session)
+    judge_mark(mark)
+    state = session.marks[mark - 1]
+    if state is None:
+        raise Refused(16)
+    return Answer("done", 0, state, session._replace(present=state))
+
+
+def answered(table: Table, session: Session, call: Call) -> Answer:
+    """Document 02, §8: one of the calls. A refused one alters nothing."""
+    calls = {"step": session_step, "mark": session_mark, "return": session_return}
+    try:
+        return calls[call.name](table, session, call.given)
+    except Refused as refused:
+        return Answer("refused", refused.number, session.present, session)
+
+
+class Record(NamedTuple):
+    """Document 02, §8: the release list on record, and for each mark the list stored under it, or None."""
+
+    masks: bytes
+    marks: tuple[bytes | None, ...]
+
+
+BLANK = Record(b"", (None,) * MARKS)
+
+
+def recorded(record: Record, call: Call, answer: str) -> Record:
+    """Document 02, §8: a step accepted without a miss adds its mask, set stores the list under the
+    mark, return brings that list back. A miss or a refusal alters nothing."""
+    if answer in ("missed", "refused"):
+        return record
+    if call.name == "step":
+        return record._replace(masks=record.masks + bytes([call.given]))
+    if call.name == "return":
+        return record._replace(masks=record.marks[call.given - 1])
+    return record._replace(marks=record.marks[: call.given - 1] + (record.masks,) + record.marks[call.given :])
+
+
+def is_on_record(table: Table, session: Session, record: Record) -> bool:
+    """Document 02, §8: the present state is the replay of the release list on record, and the state
+    under each mark that of the list stored under it."""
+    lists, states = (record.masks, *record.marks), (session.present, *session.marks)
+    return all(
+        state is None if masks is None else reaches(table, masks, state)
+        for masks, state in zip(lists, states)
+    )
+
+
+def session_of(space: bytes) -> Session:
+    """The calls for C: a byte whose bit i - 1 is set where mark i is, then the present state, then the
+    state under each mark, of 16 bytes each. Those of a mark that is not set are not read, nor is what
+    comes later."""
+    states = [state_of(space[at : at + STATE]) for at in range(1, SESSION, STATE)]
+    marks = [state if space[0] >> i & 1 else None for i, state in enumerate(states[1:])]
+    return Session(states[0], tuple(marks))
+
+
+def with_session(space: bytes, session: Session) -> bytes:
+    """The calls for C: a space with a session at its front. The bytes of a mark that is not set stay, and
+    so do later ones. The space handed in is not changed: what it becomes is returned."""
+    flags = sum(1 << i for i, state in enumerate(session.marks) if state is not None)
+    pieces = [space[at : at + STATE] for at in range(1, SESSION, STATE)]
+    states = zip(pieces, (session.present, *session.marks))
+    written = b"".join(piece if state is None else state_bytes(state) for piece, state in states)
+    return bytes([flags]) + written + space[SESSION:]
+
+
+def session_call(sheet: bytes, space: bytes, call: Call) -> tuple[int, bytes]:
+    """The calls for C, given a sheet: kind x 2^48 + N, with kind 1 done and 2 missed, where N is 0, and
+    kind 0 refused, where N is the refusal: 1 to 8 by the sheet, 12 for a space shorter than a session,
+    which is then not read, 13, then 15 and 16, or 11. The space handed in is not changed: what it becomes
+    is returned."""
+    fault = refusal(read_sheet, sheet) or (12 if len(space) < SESSION else 0)
+    if fault:
+        return fault, space
+    answer = answered(read_sheet(sheet), session_of(space), call)
+    kind = {"next": 1, "done": 1, "missed": 2, "refused": 0}[answer.answer]
+    return kind * 2**48 + answer.refusal, with_session(space, answer.session)
+
+
+# ----------------------------------------------------------------------
 # What is known without the library
 
 
@@ -871,6 +1029,83 @@ def check_practice() -> None:
         assert table_fault(table) == 0 and read_sheet(sheet_bytes(table)) == table
 
 
+def every_session(table: Table, calls: list[Call], length: int) -> set[tuple[str, str, int]]:
+    """Document 02, §8, of every list of so many of these calls from a fresh session: its states are on
+    record. What the calls answered."""
+    reached, met = {(FRESH, BLANK)}, set()
+    for _ in range(length):
+        later = set()
+        for (session, record), call in product(reached, calls):
+            answer = answered(table, session, call)
+            record = recorded(record, call, answer.answer)
+            assert is_on_record(table, answer.session, record)
+            met.add((call.name, answer.answer, answer.refusal))
+            later.add((answer.session, record))
+        reached = later
+    return met
+
+
+def check_session_faults() -> None:
+    """Document 02, §8: the refusals and their order, of the present state and of each mark, by value and
+    for C, where the bytes of a mark that is not set are neither read nor changed."""
+    urgent, late = table_of(NP_GFP, 1, [(1, 1, 2), (2, 4, 4)]), with_jobs((1, 0))
+    calls = [Call(name, given) for name in ("step", "mark", "return") for given in (0, 255, 1, 8)]
+    none = [0, 11, 0, 11, 15, 15, 0, 0, 15, 15, 16, 16]
+    assert [answered(urgent, FRESH, call).refusal for call in calls] == none
+    sheet, garbage = sheet_bytes(urgent), bytes(1 + STATE) + b"\xff" * 129
+    for place in range(1 + MARKS):
+        states = [late if i == place else START for i in range(1 + MARKS)]
+        wrong = Session(states[0], tuple(states[1:]))
+        space = with_session(garbage, wrong)
+        assert not is_proper(urgent, late) and session_of(space) == wrong and space[SESSION:] == b"\xff"
+        for call in calls:
+            assert answered(urgent, wrong, call) == ("refused", 13, wrong.present, wrong)
+            assert answered(urgent._replace(m=0), wrong, call).refusal == 5
+            for given, number in ((space, 13), (space[:-1], 13), (space[:-2], 12), (b"", 12)):
+                assert session_call(sheet, given, call) == (number, given)
+                assert session_call(sheet + b"\0", given, call) == (8, given)
+    written = {
+        Call("step", 1): bytes([0, 0, 1, *[0] * 14]) + garbage[17:],
+        Call("mark", 1): b"\x01" + bytes(2 * STATE) + garbage[33:],
+        Call("mark", 8): b"\x80" + garbage[1:129] + bytes(STATE) + garbage[145:],
+    }
+    for call, number in zip(calls, none):
+        assert session_call(sheet, garbage, call) == (number or 2**48, written.get(call, garbage))
+
+
+def check_sessions() -> None:
+    """Document 02, §8: every short list of calls; a walk with a miss, after which the session stays where
+    it was, a mark that is set anew, and returns; and the bytes of a session."""
+    calls = [Call("step", mask) for mask in (0, 1, 2, 3, 4)]
+    calls += [Call(name, mark) for name in ("mark", "return") for mark in (0, 1, 8)]
+    every = {("step", "next", 0), ("step", "missed", 0), ("step", "refused", 11)}
+    every |= {("mark", "done", 0), ("mark", "refused", 15)}
+    every |= {("return", "done", 0), ("return", "refused", 15), ("return", "refused", 16)}
+    for policy in POLICIES:
+        assert every_session(table_of(policy, 1, [(2, 2, 3), (1, 2, 2)]), calls, 4) == every
+    urgent = table_of(NP_GFP, 1, [(1, 1, 2), (2, 4, 4)])
+    started, later = with_jobs((0, 0), (1, 3)), with_jobs((0, 0), (0, 2))
+    session, space = FRESH, bytes(1 + STATE) + b"\xee" * 130
+    for call, answer, state, marks in (
+        (Call("mark", 8), "done", START, {8: START}),
+        (Call("step", 2), "next", started, {8: START}),
+        (Call("mark", 1), "done", started, {1: started, 8: START}),
+        (Call("step", 1), "missed", started, {1: started, 8: START}),
+        (Call("step", 0), "next", later, {1: started, 8: START}),
+        (Call("mark", 8), "done", later, {1: started, 8: later}),
+        (Call("return", 1), "done", started, {1: started, 8: later}),
+        (Call("step", 3), "refused", started, {1: started, 8: later}),
+        (Call("return", 8), "done", later, {1: started, 8: later}),
+    ):
+        given = answered(urgent, session, call)
+        session = given.session
+        assert given.answer == answer and session == Session(state, tuple(marks.get(i + 1) for i in range(MARKS)))
+        number, space = session_call(sheet_bytes(urgent), space, call)
+        assert number == {"missed": 2**49, "refused": 11}.get(answer, 2**48) and session_of(space) == session
+    first, last = bytes([0, 0, 1, 3, *[0] * 12]), bytes([0, 0, 0, 2, *[0] * 12])
+    assert space == b"\x81" + last + first + b"\xee" * 96 + last + b"\xee" * 2
+
+
 def check_beside_deadlines() -> None:
     """Policy 4 beside 3, on every table of two tasks with P at most 3. On one core each of them keeps
     whatever can be kept, so neither is Safe without the other. With C = 1 for both tasks the slack is
@@ -885,8 +1120,8 @@ def check_beside_deadlines() -> None:
 
 def self_check() -> None:
     """Section "Benchmark tables": every entry, starred or not. Then demand 3: the levels are those
-    that replaying every list gives. Then files of states, policy 4, the age, the totals, the columns, and
-    practice tables."""
+    that replaying every list gives. Then files of states, policy 4, the age, the totals, the columns,
+    practice tables, and sessions."""
     big = MOST_SLOTS
     two = table_of(P_GFP, 1, [(1, 2, 2), (1, 2, 2)])
     assert verdict(two, big) == ("safe", 0, 4) and verdict(two, 3) == ("room", 0, 3)
@@ -923,6 +1158,8 @@ def self_check() -> None:
     check_service()
     check_columns()
     check_practice()
+    check_sessions()
+    check_session_faults()
 
 
 if __name__ == "__main__":

@@ -6,22 +6,44 @@
 #include <stdlib.h>
 #include <string.h>
 
-int finish(void)
+/* That of the end: 2 once something was wrong. */
+static int status = 0;
+
+static void say(const char *format, va_list values)
 {
-    if (fflush(stdout) != 0 || ferror(stdout))
-        fail("standard output: %s", strerror(errno));
-    return 0;
+    fputs("ronchhek: ", stderr);
+    vfprintf(stderr, format, values);
+    fputc('\n', stderr);
+    status = 2;
+}
+
+void complain(const char *format, ...)
+{
+    va_list values;
+    va_start(values, format);
+    say(format, values);
+    va_end(values);
 }
 
 _Noreturn void fail(const char *format, ...)
 {
     va_list values;
     va_start(values, format);
-    fputs("ronchhek: ", stderr);
-    vfprintf(stderr, format, values);
-    fputc('\n', stderr);
+    say(format, values);
     va_end(values);
-    exit(2);
+    exit(status);
+}
+
+void flush(void)
+{
+    if (fflush(stdout) != 0 || ferror(stdout))
+        fail("standard output: %s", strerror(errno));
+}
+
+int finish(void)
+{
+    flush();
+    return status;
 }
 
 const char *take_option(struct args *args, const char *name)
@@ -39,19 +61,25 @@ const char *take_option(struct args *args, const char *name)
     return NULL;
 }
 
-unsigned long number(const char *what, const char *text, unsigned long most)
+bool read_number(const char *text, unsigned long most, unsigned long *value)
 {
     bool hex = text[0] == '0' && (text[1] == 'x' || text[1] == 'X');
     const char *digits = hex ? text + 2 : text;
     bool written = *digits && digits[strspn(digits, hex ? "0123456789abcdefABCDEF" : "0123456789")] == '\0';
     errno = 0;
-    unsigned long value = written ? strtoul(digits, NULL, hex ? 16 : 10) : 0;
-    if (!written || errno || value > most)
+    *value = written ? strtoul(digits, NULL, hex ? 16 : 10) : 0;
+    return written && !errno && *value <= most;
+}
+
+unsigned long number(const char *what, const char *text, unsigned long most)
+{
+    unsigned long value;
+    if (!read_number(text, most, &value))
         fail("%s: `%s` is not a number from 0 to %lu", what, text, most);
     return value;
 }
 
-static uint8_t *resized(uint8_t *bytes, size_t len)
+uint8_t *resized(uint8_t *bytes, size_t len)
 {
     bytes = realloc(bytes, len ? len : 1);
     if (!bytes)
@@ -142,8 +170,15 @@ const char *reason(unsigned refusal)
         [10] = "the trace space is shorter than the slots are many",
         [11] = "a mask's bit for no task, or for a task that may not be released yet",
         [12] = "the space for the outcome is too short",
-        [13] = "the state is not proper",
+        [13] = "a state of the session is not proper, present or marked",
         [14] = "the file is empty or not a whole number of states",
+        [15] = "a mark outside 1 to 8",
+        [16] = "a return to a mark never set",
     };
     return refusal && refusal < sizeof reasons / sizeof *reasons ? reasons[refusal] : "an unknown refusal";
+}
+
+void print_refusal(FILE *file, unsigned refusal)
+{
+    fprintf(file, "refused %u\n%s\n", refusal, reason(refusal));
 }

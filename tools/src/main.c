@@ -29,6 +29,13 @@ static const struct command {
      "    were released, the ticks in which it ran, the work left at the end, and how they balance: releases x C = ran + left.\n"
      "    The tick that misses is counted. One that is refused with 11 is not, and on any other refusal there are no totals.\n",
      service},
+    {"session", "SHEET",
+     "    Steps through a replay by commands on standard input, one a line. `step MASK` plays a tick and prints `next`, or `missed`\n"
+     "    and stays where it was; `mark I` keeps the point reached under mark I, 1 to 8, and `return I` goes back to it: both print\n"
+     "    `done`. Each may print `refused R: REASON`, and a line for each task follows, its state in words. `show` prints `masks` with\n"
+     "    those that led here, as `replay` takes them, then the tasks' lines, then `mark I:` with its masks for each mark that is set.\n"
+     "    `quit` ends. A line that is no command is told on standard error and makes the status 2. SHEET must be a file here.\n",
+     session},
     {"show", "SHEET",
      "    The table of a sheet in words, or `refused R` and a line that says why.\n",
      show},

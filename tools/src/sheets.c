@@ -36,5 +36,5 @@ void put_sheet(const char *path, const uint8_t *sheet, uint64_t answer)
     if (RONCHHEK_KIND(answer) == RONCHHEK_DONE)
         put(output ? NULL : path, sheet, RONCHHEK_COUNT(answer));
     else
-        fprintf(stderr, "refused %u\n%s\n", RONCHHEK_COUNT(answer), reason(RONCHHEK_COUNT(answer)));
+        print_refusal(stderr, RONCHHEK_COUNT(answer));
 }

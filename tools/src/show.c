@@ -29,7 +29,7 @@ bool show(struct args *args)
     if (RONCHHEK_KIND(answer) == RONCHHEK_DONE)
         print_table(table);
     else
-        printf("refused %u\n%s\n", RONCHHEK_COUNT(answer), reason(RONCHHEK_COUNT(answer)));
+        print_refusal(stdout, RONCHHEK_COUNT(answer));
     free(sheet.at);
     return true;
 }

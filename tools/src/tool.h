@@ -3,6 +3,7 @@
 #define TOOL_H
 
 #include <stdbool.h>
+#include <stdio.h>
 
 #include "ronchhek.h"
 
@@ -17,21 +18,29 @@ bool verdict(struct args *args);
 bool evidence(struct args *args);
 bool replay(struct args *args);
 bool service(struct args *args);
+bool session(struct args *args);
 bool show(struct args *args);
 bool make(struct args *args);
 bool practice(struct args *args);
 
-/* Says on standard error what is wrong, and ends with status 2. */
+/* Says on standard error what is wrong; the status at the end is 2 then. */
+void complain(const char *format, ...) __attribute__((format(printf, 1, 2)));
+
+/* The same, and that is the end. */
 _Noreturn void fail(const char *format, ...) __attribute__((format(printf, 1, 2)));
 
 /* Takes an option and its value out of the arguments. NULL: it is not there. */
 const char *take_option(struct args *args, const char *name);
 
-/* The number that a text writes, decimal or 0x.., from 0 to `most`; fails for any other text. */
+/* The number that a text writes, decimal or 0x.., from 0 to `most`. False: it writes none. */
+bool read_number(const char *text, unsigned long most, unsigned long *value);
+
+/* The same; fails for any other text. */
 unsigned long number(const char *what, const char *text, unsigned long most);
 
-/* Heap of exactly that many bytes; fails where there is none. */
+/* Heap of exactly that many bytes, and heap made as long, which holds what it held; fails where there is none. */
 uint8_t *space(size_t len);
+uint8_t *resized(uint8_t *bytes, size_t len);
 
 struct bytes {
     uint8_t *at;
@@ -73,7 +82,13 @@ void put_sheet(const char *path, const uint8_t *sheet, uint64_t answer);
 /* What a refusal says. */
 const char *reason(unsigned refusal);
 
-/* The status after an answer: 0, unless what was printed could not be written. */
+/* A refusal on two lines: `refused R`, and what it says. */
+void print_refusal(FILE *file, unsigned refusal);
+
+/* Writes out what was printed; fails where it cannot. */
+void flush(void);
+
+/* The same at the end. The status after an answer: 0, unless there was a complaint. */
 int finish(void);
 
 #endif
