@@ -1,6 +1,6 @@
 //! The calls of include/ronchhek.h, as safe functions, and their packed answers.
 
-use crate::model::{Practice, Replay, Verdict};
+use crate::model::{Call, Practice, Replay, Verdict};
 
 extern "C" {
     fn ronchhek_verdict(
@@ -31,6 +31,17 @@ extern "C" {
     fn ronchhek_write(table: *const u8, table_len: usize, out: *mut u8, out_len: usize) -> u64;
     fn ronchhek_closed(sheet: *const u8, sheet_len: usize, states: *const u8, states_len: usize) -> u64;
     fn ronchhek_practice(policy: u8, m: u8, n: u8, seed: u16, out: *mut u8, out_len: usize) -> u64;
+    fn ronchhek_session_step(sheet: *const u8, sheet_len: usize, session: *mut u8, session_len: usize, mask: u8)
+        -> u64;
+    fn ronchhek_session_mark(sheet: *const u8, sheet_len: usize, session: *mut u8, session_len: usize, mark: u8)
+        -> u64;
+    fn ronchhek_session_return(
+        sheet: *const u8,
+        sheet_len: usize,
+        session: *mut u8,
+        session_len: usize,
+        mark: u8,
+    ) -> u64;
 }
 
 /// The call takes any bytes and any lengths, so there is nothing to test before it.
@@ -68,6 +79,18 @@ pub fn practice(given: Practice, out: &mut [u8]) -> u64 {
     unsafe { ronchhek_practice(policy, cores, tasks, seed, out.as_mut_ptr(), out.len()) }
 }
 
+/// One of the three calls on a session.
+pub fn session(sheet: &[u8], session: &mut [u8], call: Call) -> u64 {
+    let (s, n) = (session.as_mut_ptr(), session.len());
+    unsafe {
+        match call {
+            Call::Step(mask) => ronchhek_session_step(sheet.as_ptr(), sheet.len(), s, n, mask),
+            Call::Mark(mark) => ronchhek_session_mark(sheet.as_ptr(), sheet.len(), s, n, mark),
+            Call::Return(mark) => ronchhek_session_return(sheet.as_ptr(), sheet.len(), s, n, mark),
+        }
+    }
+}
+
 /// kind * 2^48 + N, where N bytes are written.
 pub fn packed_bytes(written: &Result<Vec<u8>, u8>) -> u64 {
     match written {
@@ -76,9 +99,9 @@ pub fn packed_bytes(written: &Result<Vec<u8>, u8>) -> u64 {
     }
 }
 
-/// kind * 2^48 + N, where N is the refusal or 0.
-pub fn packed_closed(c: Result<bool, u8>) -> u64 {
-    match c {
+/// kind * 2^48 + N, where N is the refusal or 0: a file accepted or not, a call on a session done or missed.
+pub fn packed_kind(outcome: Result<bool, u8>) -> u64 {
+    match outcome {
         Ok(true) => 1 << 48,
         Ok(false) => 2 << 48,
         Err(r) => r as u64,

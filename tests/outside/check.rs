@@ -1,8 +1,8 @@
 //! What a call may leave behind: its answer and every byte that it was lent, by document 01's rules.
 
-use crate::calls::{packed_bytes, packed_closed, packed_replay, packed_verdict};
+use crate::calls::{packed_bytes, packed_kind, packed_replay, packed_verdict};
 use crate::layout::Columns;
-use crate::model::{Levels, Model, Replay, State, Table, Tick, Totals, Verdict, STATE, TASKS, TOTALS};
+use crate::model::{Call, Levels, Model, Replay, State, Table, Tick, Totals, Verdict, STATE, TASKS, TOTALS};
 use std::collections::HashSet;
 
 /// The spaces of one call of ronchhek_verdict, before and after it, and its answer.
@@ -14,7 +14,8 @@ pub struct Searched<'a> {
     pub answer: u64,
 }
 
-/// The one space of a call of ronchhek_replay, ronchhek_service, ronchhek_read, ronchhek_write or ronchhek_practice.
+/// The one space of a call of ronchhek_replay, ronchhek_service, ronchhek_read, ronchhek_write or ronchhek_practice, or of a call on a
+/// session.
 pub struct Called<'a> {
     pub before: &'a [u8],
     pub after: &'a [u8],
@@ -262,9 +263,34 @@ pub fn closed_outcome(m: &Model, reading: &Result<Table, u8>, file: &[u8]) -> Re
 
 /// A call of ronchhek_closed, to which nothing is lent.
 pub fn judged(outcome: Result<bool, u8>, answer: u64) -> Result<(), String> {
-    let expected = packed_closed(outcome);
+    let expected = packed_kind(outcome);
     if answer != expected {
         return Err(format!("the file is answered {answer:#x}, expected {expected:#x} ({outcome:?})"));
     }
     Ok(())
+}
+
+/// The outcome of a call on a session: done or missed, or its refusal; and every byte of the space after it.
+pub type SessionOutcome = (Result<bool, u8>, Vec<u8>);
+
+/// The refusals of the sheet come first. A refused call changes no byte.
+pub fn session_outcome(m: &Model, reading: &Result<Table, u8>, space: &[u8], call: Call) -> SessionOutcome {
+    let called = reading.as_ref().map_err(|r| *r).and_then(|t| m.session_call(t, space, call));
+    let mut after = space.to_vec();
+    if let Ok((_, session)) = &called {
+        m.write_session(session, &mut after);
+    }
+    (called.map(|(done, _)| done), after)
+}
+
+/// A call on a session: its answer, and every byte of the space.
+pub fn session_called((outcome, after): &SessionOutcome, c: &Called) -> Result<(), String> {
+    let expected = packed_kind(*outcome);
+    if c.answer != expected {
+        return Err(format!("answer {:#x}, expected {expected:#x} ({outcome:?})", c.answer));
+    }
+    match after.iter().zip(c.after).position(|(a, b)| a != b) {
+        Some(at) => Err(format!("byte {at} is {}, expected {} ({outcome:?})", c.after[at], after[at])),
+        None => Ok(()),
+    }
 }

@@ -1,8 +1,9 @@
 /* corpus FOLDER: every line of FOLDER/cases.txt in one process, for valgrind: each space is a heap block of the exact size that
  * nothing wrote to before. The first line of a verdict must be the one expected, the list of an unsafe one must miss at its last
  * tick, the parents and masks of the slots must lead to their states, the states of a search must be accepted as a file exactly when
- * it is safe, the totals of every list must balance, and the table of an accepted sheet must give the same sheet again. Then practice
- * sheets, which must give the same sheet again too. Ends with status 1 at the first difference. */
+ * it is safe, the totals of every list must balance, a session must be where the replay of its masks is, and the table of an accepted
+ * sheet must give the same sheet again. Then practice sheets, which must give the same sheet again too. Ends with status 1 at the first
+ * difference. */
 #include <stdio.h>
 #include <stdlib.h>
 #include <string.h>
@@ -119,21 +120,93 @@ static void service(const char *name, const uint8_t *sheet, size_t len, const ui
     free(shorter);
 }
 
+/* A list that releases every task of a sheet whenever it may be, and none of a refused sheet. */
+static uint8_t *releases(const uint8_t *sheet, size_t len, size_t ticks)
+{
+    uint8_t *table = space(RONCHHEK_TABLE_BYTES), *list = space(ticks);
+    unsigned tasks = RONCHHEK_KIND(ronchhek_read(sheet, len, table, RONCHHEK_TABLE_BYTES)) == RONCHHEK_DONE ? table[2] : 0;
+    memset(list, 0, ticks);
+    for (unsigned i = 0; i < tasks; i++)
+        for (size_t tick = 0; tick < ticks; tick += table[3 + 3 * i + 2])
+            list[tick] |= 1 << i;
+    free(table);
+    return list;
+}
+
 /* Lists of one sheet, also of a refused one: the empty one, one that releases every task whenever it may be, and that with every bit
  * in its last mask. */
 static void services(const char *name, const uint8_t *sheet, size_t len)
 {
     enum { LENGTH = 500 };
-    uint8_t *table = space(RONCHHEK_TABLE_BYTES), *list = space(LENGTH);
-    unsigned tasks = RONCHHEK_KIND(ronchhek_read(sheet, len, table, RONCHHEK_TABLE_BYTES)) == RONCHHEK_DONE ? table[2] : 0;
-    memset(list, 0, LENGTH);
-    for (unsigned i = 0; i < tasks; i++)
-        for (size_t tick = 0; tick < LENGTH; tick += table[3 + 3 * i + 2])
-            list[tick] |= 1 << i;
+    uint8_t *list = releases(sheet, len, LENGTH);
     service(name, sheet, len, list, 0);
     service(name, sheet, len, list, LENGTH);
     list[LENGTH - 1] = 255;
     service(name, sheet, len, list, LENGTH);
+    free(list);
+}
+
+/* The present state of a session, which must be the one with which this list is kept. */
+static void present(const char *name, const uint8_t *sheet, size_t len, const uint8_t *session, const uint8_t *list, size_t ticks)
+{
+    uint8_t *state = space(RONCHHEK_STATE_BYTES);
+    uint64_t played = ronchhek_replay(sheet, len, list, ticks, state, RONCHHEK_STATE_BYTES);
+    if (RONCHHEK_REPLAY_KIND(played) != RONCHHEK_REPLAY_KEPT
+        || memcmp(state, session + RONCHHEK_SESSION_PRESENT_AT, RONCHHEK_STATE_BYTES) != 0)
+        fail(name, "the present state of a session is not that of the replay");
+    free(state);
+}
+
+/* A fresh session with a mark before every eighth step, up to a miss or to the end of the list, and a return to every mark. Of its block
+ * only the flags and the present state are written before. */
+static void stepped(const char *name, const uint8_t *sheet, size_t len, const uint8_t *list, size_t ticks)
+{
+    uint64_t done = (uint64_t)RONCHHEK_DONE << 48, missed = (uint64_t)RONCHHEK_SESSION_MISSED << 48, answer = done;
+    uint8_t *session = space(RONCHHEK_SESSION_BYTES), set = 0;
+    size_t tick = 0;
+    memset(session, 0, RONCHHEK_SESSION_MARK_AT(1));
+    while (tick < ticks && answer == done) {
+        if (tick % 8 == 0 && ronchhek_session_mark(sheet, len, session, RONCHHEK_SESSION_BYTES, ++set) != done)
+            fail(name, "a mark is not set");
+        answer = ronchhek_session_step(sheet, len, session, RONCHHEK_SESSION_BYTES, list[tick]);
+        tick += answer == done;
+    }
+    if (answer != done && answer != missed)
+        fail(name, "a step is refused");
+    present(name, sheet, len, session, list, tick);
+    for (uint8_t mark = 0; mark <= 9; mark++) {
+        answer = ronchhek_session_return(sheet, len, session, RONCHHEK_SESSION_BYTES, mark);
+        if (answer != (mark < 1 || mark > 8 ? 15 : mark > set ? 16 : done))
+            fail(name, "a return is answered otherwise than expected");
+        if (answer == done)
+            present(name, sheet, len, session, list, 8 * (size_t)(mark - 1));
+    }
+    free(session);
+}
+
+/* The calls on a session in a block that nothing wrote to, each of which must be refused with this number. */
+static void unread(const char *name, const uint8_t *sheet, size_t len, size_t session_len, uint64_t number)
+{
+    uint8_t *session = space(session_len);
+    if (ronchhek_session_step(sheet, len, session, session_len, 0) != number
+        || ronchhek_session_mark(sheet, len, session, session_len, 1) != number
+        || ronchhek_session_return(sheet, len, session, session_len, 1) != number)
+        fail(name, "a call on a session is not refused as expected");
+    free(session);
+}
+
+/* Sessions of one sheet: of an accepted one a session, and a block too short for one; of a refused one no session is read. */
+static void sessions(const char *name, const uint8_t *sheet, size_t len)
+{
+    enum { TICKS = 50 };
+    uint8_t *table = space(RONCHHEK_TABLE_BYTES), *list = releases(sheet, len, TICKS);
+    uint64_t answer = ronchhek_read(sheet, len, table, RONCHHEK_TABLE_BYTES);
+    if (RONCHHEK_KIND(answer) == RONCHHEK_DONE) {
+        stepped(name, sheet, len, list, TICKS);
+        unread(name, sheet, len, RONCHHEK_SESSION_BYTES - 1, 12);
+    } else {
+        unread(name, sheet, len, RONCHHEK_SESSION_BYTES, answer);
+    }
     free(table);
     free(list);
 }
@@ -205,10 +278,10 @@ static void practice(uint8_t policy, uint8_t m, uint8_t n, uint16_t seed)
 static int practices(void)
 {
     int sheets = 0;
-    for (unsigned policy = 0; policy < 5; policy++)
-        for (unsigned m = 1; m <= 8; m++)
-            for (unsigned n = 1; n <= 8; n++)
-                practice(policy, m, n, 200 * sheets++);
+    for (uint8_t policy = 0; policy < 5; policy++)
+        for (uint8_t m = 1; m <= 8; m++)
+            for (uint8_t n = 1; n <= 8; n++)
+                practice(policy, m, n, (uint16_t)(200 * sheets++));
     return sheets;
 }
 
@@ -231,6 +304,7 @@ int main(int argc, char **argv)
             judge(name, sheet, len, k * RONCHHEK_SLOT_BYTES, k, expected);
         exchange(name, sheet, len);
         services(name, sheet, len);
+        sessions(name, sheet, len);
         free(sheet);
         lines++;
     }

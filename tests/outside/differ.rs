@@ -1,6 +1,6 @@
 //! Differential test: the library's calls against the independent implementation of model.rs.
 //!
-//!     differ [--seed S] [--sheets N] [--case I] [--fault 1..49] [--corpus DIR]
+//!     differ [--seed S] [--sheets N] [--case I] [--fault 1..58] [--corpus DIR]
 //!
 //! Prints its seed, and at the end what was met. Ends with status 1 at the first difference.
 //! `--case I` runs that sheet of the seed alone. `--fault` seeds a mistake: in the independent side, or, of the layout, in the work
@@ -19,7 +19,9 @@ mod model;
 mod practice;
 mod rng;
 mod service;
+mod session;
 
+use check::Called;
 use layout::{Columns, Left, SLOT};
 use lent::Lent;
 use model::{End, Levels, Model, Replay, Table, Verdict, BY_NUMBER, POLICIES, STATE, TABLE};
@@ -201,7 +203,7 @@ impl Run {
         &mut self,
         r: &mut Rng,
         call: &str,
-        mut space: Lent,
+        space: Lent,
         answer: u64,
         bytes: Result<Vec<u8>, u8>,
     ) -> Result<(), String> {
@@ -213,19 +215,30 @@ impl Run {
             Ok(_) => format!("{call} done"),
             Err(n) => format!("{call} refused {n:2}"),
         });
-        if r.one_in(30) {
-            let mut changed = answer;
-            if space.len > 0 && r.one_in(2) {
-                let at = r.below(space.len);
-                space.space()[at] ^= 1 << r.below(8);
-            } else {
-                changed ^= 1 << r.below(64);
-            }
-            if check::written(&outcome, &space.called(changed)).is_ok() {
-                return Err(format!("{call}: a changed byte was not found"));
-            }
-            self.met.add("changed bytes found");
+        self.changed(r, space, answer, |c| check::written(&outcome, c)).map_err(|e| format!("{call}: {e}"))
+    }
+
+    /// Now and then, one changed byte of the outcome of a call with one space, or its answer, which must be found.
+    fn changed(
+        &mut self,
+        r: &mut Rng,
+        mut space: Lent,
+        mut answer: u64,
+        judge: impl Fn(&Called) -> Result<(), String>,
+    ) -> Result<(), String> {
+        if !r.one_in(30) {
+            return Ok(());
         }
+        if space.len > 0 && r.one_in(2) {
+            let at = r.below(space.len);
+            space.space()[at] ^= 1 << r.below(8);
+        } else {
+            answer ^= 1 << r.below(64);
+        }
+        if judge(&space.called(answer)).is_ok() {
+            return Err("a changed byte was not found".into());
+        }
+        self.met.add("changed bytes found");
         Ok(())
     }
 
@@ -382,6 +395,7 @@ impl Run {
         });
         self.exchange(r, &s)?;
         self.evidence(r, &s)?;
+        self.sessions(r, &s)?;
         let Some(levels) = &s.levels else {
             for _ in 0..3 {
                 let k = r.below(4);
@@ -481,6 +495,28 @@ impl Run {
             }
         }
         self.replays(r, &s, &traces)
+    }
+
+    /// A generated table of that policy that is safe, or one that is not.
+    fn generated(&self, r: &mut Rng, policy: u8, safe: bool) -> Result<Subject, String> {
+        let wanted = |end: End| if safe { end == End::Closed } else { matches!(end, End::Miss(_)) };
+        (0..1000)
+            .map(|_| self.subject(model::write_sheet(&gen::table_under(r, policy)), LIMIT))
+            .find(|s| wanted(s.levels.as_ref().unwrap().end))
+            .ok_or(format!("no table of policy {policy} is found"))
+    }
+
+    /// Under each policy a safe table and one that is not.
+    fn under_each_policy(
+        &mut self,
+        r: &mut Rng,
+        test: impl Fn(&mut Run, &mut Rng, &Subject) -> Result<(), String>,
+    ) -> Result<(), String> {
+        for (policy, safe) in (0..POLICIES).flat_map(|policy| [(policy, true), (policy, false)]) {
+            let s = self.generated(r, policy, safe)?;
+            test(self, r, &s).map_err(|e| format!("sheet {}: {e}", hex(&s.sheet)))?;
+        }
+        Ok(())
     }
 
     /// Slot numbers past 16 bits, as many states as there can be slots, and a miss after hundreds of ticks.
@@ -693,8 +729,10 @@ fn whole_run(run: &mut Run, seed: u64, sheets: u64) -> Result<(), String> {
         run.improper_files(&mut r).map_err(|e| format!("improper files: {e}"))?;
         run.large_files(&mut r).map_err(|e| format!("large files: {e}"))?;
         run.every_tick(&mut r).map_err(|e| format!("a release at every tick: {e}"))?;
+        run.every_mark(&mut r).map_err(|e| format!("every mark: {e}"))?;
+        run.under_each_policy(&mut r, Run::long_session).map_err(|e| format!("hundreds of calls: {e}"))?;
         for _ in 0..sheets.min(20_000) / 1000 {
-            run.thousands_of_ticks(&mut r).map_err(|e| format!("thousands of ticks: {e}"))?;
+            run.under_each_policy(&mut r, Run::late_ends).map_err(|e| format!("thousands of ticks: {e}"))?;
         }
         for _ in 0..sheets.min(20_000) / 100 {
             let t = gen::tiny_table(&mut r);
@@ -750,7 +788,8 @@ fn complete(met: &Met) -> Result<(), String> {
     let answers = ["Safe", "Unsafe", "No room", "replay Kept", "replay Missed", "file accepted", "file no"];
     for p in 0..POLICIES {
         all.push(format!("sheets of policy {p}"));
-        all.extend(answers.iter().chain(&service::MUST).map(|answer| format!("{answer} under policy {p}")));
+        let musts = answers.iter().chain(&service::MUST).chain(&session::MUST);
+        all.extend(musts.map(|answer| format!("{answer} under policy {p}")));
     }
     all.extend(["sheets", "tables"].map(|what| format!("{what} refused 4, for policy 5")));
     all.extend(["other states", "another end"].map(|what| format!("sheets of policy 4 with {what} under policy 3")));
@@ -758,6 +797,7 @@ fn complete(met: &Met) -> Result<(), String> {
     all.push("sheets of policy 3 with another end by number alone".into());
     all.extend([4, 5, 6, 12].map(|n| format!("practice refused {n:2}")));
     all.extend((1..=8).map(|n| format!("practice tables of {n} tasks")));
+    all.extend(session::NAMES.iter().flat_map(|call| (1..=8).map(move |n| format!("{call} refused {n:2}"))));
     all.extend(["read done", "write done", "practice done"].map(String::from));
     all.extend(KINDS.map(|kind| format!("{kind} with every rest")));
     match all.iter().find(|what| met.of(what) < 20) {
@@ -819,6 +859,6 @@ fn faults() -> impl Iterator<Item = &'static str> {
 }
 
 fn usage() -> ! {
-    eprintln!("usage: differ [--seed S] [--sheets N] [--case I] [--fault 1..49] [--corpus DIR]");
+    eprintln!("usage: differ [--seed S] [--sheets N] [--case I] [--fault 1..58] [--corpus DIR]");
     std::process::exit(2);
 }

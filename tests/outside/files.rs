@@ -86,7 +86,7 @@ fn repeated(r: &mut Rng, states: &[State]) -> Vec<State> {
 }
 
 /// One of the states with some of its numbers changed, most of them to one that the task may have.
-fn alike(r: &mut Rng, t: &Table, states: &[State]) -> State {
+pub fn alike(r: &mut Rng, t: &Table, states: &[State]) -> State {
     let mut s = r.pick(states);
     for _ in 0..r.range(1, 2) {
         let i = r.below(t.tasks.len());
@@ -141,6 +141,17 @@ pub fn improper(r: &mut Rng, m: &Model, t: &Table, states: &[State], fault: Faul
         _ => return None,
     }
     Some(s).filter(|s| !m.proper(t, s))
+}
+
+/// One of the states, made improper in some way.
+pub fn any_improper(r: &mut Rng, m: &Model, t: &Table, states: &[State]) -> State {
+    loop {
+        // Every table has states with a wait longer than P.
+        let (fault, _) = r.pick(&IMPROPER);
+        if let Some(s) = improper(r, m, t, states, fault) {
+            return s;
+        }
+    }
 }
 
 /// An improper state from which every legal mask leads, without a miss, to one of these: a late job that ends with this tick.

@@ -1,5 +1,5 @@
-//! Fuzz driver: the calls on random sheets, lists, tables, files, numbers and sizes of spaces, with pages that fault on any access
-//! on both sides of every space. The input stands in pages that fault on a write.
+//! Fuzz driver: the calls on random sheets, lists, tables, files, numbers, sessions and sizes of spaces, with pages that fault on any
+//! access on both sides of every space. The input stands in pages that fault on a write.
 //!
 //!     fuzz [--seconds S] [--seed S] [--from I] [--cases N]
 //!
@@ -21,7 +21,7 @@ mod rng;
 
 use check::{Called, Searched};
 use layout::SLOT;
-use model::{Model, Table, Verdict, LONGEST, STATE, TABLE, TOTALS};
+use model::{Model, Table, Verdict, LONGEST, SESSION, STATE, TABLE, TOTALS};
 use rng::Rng;
 use std::io::Write;
 use std::sync::atomic::{AtomicU64, Ordering};
@@ -141,10 +141,16 @@ impl Spaces {
     }
 }
 
-/// A lent part filled with random bytes, and those beside it with a pattern.
-fn lend(r: &mut Rng, pages: &Fenced, len: usize) -> (Part, Vec<u8>) {
+/// A lent part, with a pattern in the bytes beside it.
+fn lend_part(r: &mut Rng, pages: &Fenced, len: usize) -> Part {
     let part = pages.part(r, len);
     pages.beside(&part).fill(0xA5);
+    part
+}
+
+/// A lent part filled with random bytes.
+fn lend(r: &mut Rng, pages: &Fenced, len: usize) -> (Part, Vec<u8>) {
+    let part = lend_part(r, pages, len);
     r.fill(pages.bytes(&part));
     let before = pages.bytes(&part).to_vec();
     (part, before)
@@ -218,6 +224,40 @@ fn practice(r: &mut Rng, m: &Model, spaces: &Spaces) -> Result<(), String> {
     let bytes = m.practice(given).map(|t| model::write_sheet(&t));
     let len = length(r, bytes.as_ref().map_or(LONGEST, Vec::len));
     written(r, &spaces.state, len, bytes, |space| calls::practice(given, space)).map_err(|e| format!("{given:?}: {e}"))
+}
+
+/// The session of a case: of states that lists reach, fresh or not, damaged, or random bytes.
+fn any_session(r: &mut Rng, m: &Model, reading: &Result<Table, u8>) -> Vec<u8> {
+    match (reading, r.below(8)) {
+        (Err(_), _) | (_, 0) => gen::random_session(r),
+        (_, 1) => vec![0; SESSION],
+        (Ok(t), kind) => {
+            let states = gen::walk(r, m, t, 12);
+            match kind {
+                2..=3 => gen::damaged_session(r, m, t, &states),
+                _ => gen::session(r, m, &states),
+            }
+        }
+    }
+}
+
+/// Some calls on one session. One that is too short stands in pages that fault on any access.
+fn session(r: &mut Rng, m: &Model, spaces: &Spaces, sheet: &[u8], reading: &Result<Table, u8>) -> Result<(), String> {
+    let mut before = any_session(r, m, reading);
+    let lent = lend_part(r, &spaces.state, before.len());
+    spaces.state.bytes(&lent).copy_from_slice(&before);
+    for _ in 0..8 {
+        let call = gen::call(r, m, reading, &before);
+        spaces.state.access(if before.len() < SESSION { NONE } else { READ_WRITE });
+        let answer = calls::session(sheet, spaces.state.bytes(&lent), call);
+        spaces.state.access(READ_WRITE);
+        let told = |e: String| format!("sheet {sheet:?}, session {before:?}, {call:?}, answer {answer:#x}: {e}");
+        beside_stays(&spaces.state, &lent).map_err(told)?;
+        let called = Called { before: &before, after: spaces.state.bytes(&lent), answer };
+        check::session_called(&check::session_outcome(m, reading, &before, call), &called).map_err(told)?;
+        before = called.after.to_vec();
+    }
+    Ok(())
 }
 
 /// The file of a search, often damaged, or any bytes.
@@ -356,6 +396,7 @@ fn case(r: &mut Rng, m: &Model, spaces: &Spaces, most_slots: usize, found: &mut 
     found[5 + evidence(r, m, spaces, spaces.input.bytes(&input), &work, answer)?] += 1;
     replays(r, m, spaces, spaces.input.bytes(&input), &list)?;
     found[4] += 1;
+    session(r, m, spaces, spaces.input.bytes(&input), &reading)?;
     exchange(r, m, spaces, &sheet, &reading)?;
     practice(r, m, spaces)
 }
@@ -405,7 +446,7 @@ fn main() {
         "fuzz: {} searches ({safe} Safe, {miss} Unsafe, {room} No room, {refused} refused), {replays} replays",
         i - from
     );
-    println!("fuzz: as many replays with totals");
+    println!("fuzz: as many replays with totals, and sessions with 8 calls on each");
     println!(
         "fuzz: the states of each search judged, and as many files ({accepted} accepted, {no} no, {unread} refused)"
     );

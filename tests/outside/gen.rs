@@ -1,6 +1,8 @@
-//! Generated sheets and tables, valid and damaged; what practice tables are made of; and release lists.
+//! Generated sheets and tables, valid and damaged; what practice tables are made of; release lists; and sessions with calls on
+//! them.
 
-use crate::model::{self, Model, Practice, State, Table, Task, Tick, POLICIES};
+use crate::files;
+use crate::model::{self, Call, Model, Practice, Session, State, Table, Task, Tick, MARKS, POLICIES, SESSION};
 use crate::rng::Rng;
 
 /// Numbers at and beside the limits of a sheet's fields.
@@ -288,4 +290,109 @@ fn ends_in_time(m: &Model, t: &Table, mut s: State) -> bool {
         }
     }
     true
+}
+
+/// The states that legal masks lead to without a miss, one after the other, from the start state on.
+pub fn walk(r: &mut Rng, m: &Model, t: &Table, ticks: usize) -> Vec<State> {
+    let mut states = vec![State::default()];
+    for _ in 0..ticks {
+        let s = states[states.len() - 1];
+        let masks = [legal_mask(r, t, &s), legal_mask(r, t, &s), 0];
+        states.extend(masks.into_iter().find_map(|mask| match m.tick(t, &s, mask) {
+            Tick::Next(next) => Some(next),
+            _ => None,
+        }));
+    }
+    states
+}
+
+/// Any of these states as the present one and under any marks.
+fn session_of(r: &mut Rng, states: &[State]) -> Session {
+    let present = r.pick(states);
+    Session { present, marks: std::array::from_fn(|_| r.one_in(2).then(|| r.pick(states))) }
+}
+
+/// The bytes of a session, often with some after them. Those of a mark that is not set are any.
+pub fn session_bytes(r: &mut Rng, m: &Model, s: &Session) -> Vec<u8> {
+    let more = r.below(100);
+    let mut bytes = vec![0; SESSION + r.pick(&[0, 0, 1, more])];
+    r.fill(&mut bytes);
+    m.write_session(s, &mut bytes);
+    bytes
+}
+
+/// A session of these states.
+pub fn session(r: &mut Rng, m: &Model, states: &[State]) -> Vec<u8> {
+    let s = session_of(r, states);
+    session_bytes(r, m, &s)
+}
+
+/// A session of these states with one of them improper, or with states like them, many of which are; sometimes too short.
+pub fn damaged_session(r: &mut Rng, m: &Model, t: &Table, states: &[State]) -> Vec<u8> {
+    let mut s = session_of(r, states);
+    match r.below(3) {
+        0 => s.present = files::any_improper(r, m, t, states),
+        1 => s.marks[r.below(MARKS)] = Some(files::any_improper(r, m, t, states)),
+        _ => {
+            s.present = files::alike(r, t, states);
+            s.marks = s.marks.map(|mark| mark.map(|_| files::alike(r, t, states)));
+        }
+    }
+    let mut bytes = session_bytes(r, m, &s);
+    if r.one_in(4) {
+        bytes.truncate(short_session(r));
+    }
+    bytes
+}
+
+/// A length that is too short for a session.
+fn short_session(r: &mut Rng) -> usize {
+    let any = r.below(SESSION);
+    r.pick(&[0, 1, SESSION - 1, any])
+}
+
+/// Random bytes in place of a session, of any length round that of one.
+pub fn random_session(r: &mut Rng) -> Vec<u8> {
+    let (short, more) = (short_session(r), r.below(100));
+    let mut bytes = vec![0; r.pick(&[short, SESSION, SESSION + 1, SESSION + more])];
+    r.fill(&mut bytes);
+    bytes
+}
+
+/// A legal mask that misses, where there is one.
+fn missing_mask(r: &mut Rng, m: &Model, t: &Table, s: &State) -> u8 {
+    let first = r.byte();
+    let misses = |mask: &u8| matches!(m.tick(t, s, *mask), Tick::Missed(_));
+    (0..=255).map(|i| first.wrapping_add(i)).find(misses).unwrap_or_else(|| legal_mask(r, t, s))
+}
+
+/// A call on the session of these bytes: mostly a step, with a legal mask or one that misses, else any call.
+pub fn call(r: &mut Rng, m: &Model, reading: &Result<Table, u8>, session: &[u8]) -> Call {
+    match reading {
+        Ok(t) if session.len() >= SESSION => {
+            let present = m.read_session(session).present;
+            match r.below(12) {
+                0..=4 => Call::Step(legal_mask(r, t, &present)),
+                5 => Call::Step(missing_mask(r, m, t, &present)),
+                _ => any_call(r),
+            }
+        }
+        _ => any_call(r),
+    }
+}
+
+/// A call with a random mask, or with a mark: most are 1 to 8, and often the same three.
+fn any_call(r: &mut Rng) -> Call {
+    let mark = match r.below(12) {
+        0 => r.pick(&[0, 9, 255]),
+        1 => r.byte(),
+        2..=6 => r.range(1, 3) as u8,
+        _ => r.range(1, 8) as u8,
+    };
+    match r.below(6) {
+        0 => Call::Step(r.byte()),
+        1 => Call::Step(1 << r.below(8)),
+        2..=3 => Call::Mark(mark),
+        _ => Call::Return(mark),
+    }
 }

@@ -54,6 +54,7 @@ impl Lent {
         }
         Ok(())
     }
+
     /// A call that was lent this space.
     pub fn called(&self, answer: u64) -> Called<'_> {
         Called { before: self.was(), after: self.is(), answer }

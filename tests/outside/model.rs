@@ -1,11 +1,12 @@
 //! The rules of document 01 written once more: sheet, table, tick, replay, and a search with plain sets; and those of document
-//! 02's closed lists (§1), least slack first (§3), equal jobs by age (§4), where the core time went (§5) and practice tables from a
-//! number (§7), in bytes as include/ronchhek.h has them. The columns of its work space (§6) are in layout.rs. Slow and direct; shares
-//! nothing with the library. Section names in the comments are document 01's. Tasks are counted from 0 here, so task i of this file
-//! is the document's task i + 1.
+//! 02's closed lists (§1), least slack first (§3), equal jobs by age (§4), where the core time went (§5), practice tables from a
+//! number (§7) and marks in a session (§8), in bytes as include/ronchhek.h has them. The columns of its work space (§6) are in
+//! layout.rs. Slow and direct; shares nothing with the library. Section names in the comments are document 01's. Tasks are counted
+//! from 0 here, so task i of this file is the document's task i + 1.
 
 use crate::layout::SLOT;
 use std::collections::{HashMap, HashSet};
+use std::ops::Range;
 
 pub const TASKS: usize = 8;
 
@@ -131,6 +132,34 @@ impl Totals {
     }
 }
 
+/// The marks of a session: its calls number them from 1.
+pub const MARKS: usize = 8;
+
+/// Bytes of a session: the flags of its marks, the present state, and a state for each mark.
+pub const SESSION: usize = 1 + STATE + MARKS * STATE;
+
+/// A present state, and under each mark nothing or a state.
+#[derive(Clone, Copy)]
+pub struct Session {
+    pub present: State,
+    pub marks: [Option<State>; MARKS],
+}
+
+impl Session {
+    /// The bytes of the present state, which is place 0, or of the state under mark `place`.
+    pub fn bytes_of(place: usize) -> Range<usize> {
+        1 + STATE * place..1 + STATE * (place + 1)
+    }
+}
+
+/// A call on a session, with its mask or its mark.
+#[derive(Clone, Copy, Debug)]
+pub enum Call {
+    Step(u8),
+    Mark(u8),
+    Return(u8),
+}
+
 #[derive(Clone, Copy, PartialEq, Eq, Debug)]
 pub enum Verdict {
     Safe(usize),
@@ -180,7 +209,7 @@ pub struct Model {
 pub const BY_NUMBER: u8 = 23;
 
 /// Faults that `Model` knows.
-pub const FAULTS: [&str; 39] = [
+pub const FAULTS: [&str; 48] = [
     "under NP an urgent job takes a started job's core",
     "a deadline is tested only when no time is left",
     "a task's rule is judged after all tasks",
@@ -220,6 +249,15 @@ pub const FAULTS: [&str; 39] = [
     "each task of a practice table draws C, then D, then P",
     "each task of a practice table draws from the first s again",
     "the tasks of a practice table are judged before its cores",
+    "a step that misses moves the session",
+    "a return empties its mark",
+    "a return to a mark outside 1 to 8 is judged as one to a mark never set",
+    "a mark stores the start state",
+    "the states under the marks of a session are not judged",
+    "the state under a mark that is not set is judged",
+    "the states of a session are judged before its length",
+    "the flag of a mark is one bit off",
+    "the mask of a step is judged before the states of its session",
 ];
 
 // The sheet.
@@ -556,6 +594,77 @@ impl Model {
         }
     }
 
+    // Sessions.
+
+    /// A session of its bytes; those of a mark that is not set are not looked at.
+    pub fn read_session(&self, b: &[u8]) -> Session {
+        let set = if self.fault == 47 { b[0].rotate_right(1) } else { b[0] };
+        let state = |place| State::from_bytes(&b[Session::bytes_of(place)]);
+        let mark = |i: usize| (set >> i & 1 == 1).then(|| state(i + 1));
+        Session { present: state(0), marks: std::array::from_fn(mark) }
+    }
+
+    /// A session written over bytes: those of a mark that is not set stay, and those after the session.
+    pub fn write_session(&self, s: &Session, b: &mut [u8]) {
+        let set = bits(|i| s.marks[i].is_some());
+        b[0] = if self.fault == 47 { set.rotate_left(1) } else { set };
+        for (place, state) in [Some(s.present)].iter().chain(&s.marks).enumerate() {
+            if let Some(state) = state {
+                b[Session::bytes_of(place)].copy_from_slice(&state.bytes());
+            }
+        }
+    }
+
+    /// Document 02's §8, a call on the session of these bytes: whether it is done, and not a miss, and the session after it.
+    /// Refusals 12 and 13, then 15 and 16, or 11.
+    pub fn session_call(&self, t: &Table, b: &[u8], call: Call) -> Result<(bool, Session), u8> {
+        let mut s = self.judged_session(t, b, call)?;
+        match call {
+            Call::Step(mask) => match self.tick(t, &s.present, mask) {
+                Tick::Next(next) => s.present = next,
+                Tick::Missed(last) if self.fault == 40 => return Ok((false, Session { present: last, ..s })),
+                Tick::Missed(_) => return Ok((false, s)),
+                Tick::Illegal => return Err(11),
+            },
+            Call::Mark(mark) => {
+                let stored = if self.fault == 43 { State::default() } else { s.present };
+                s.marks[index(mark)?] = Some(stored);
+            }
+            Call::Return(mark) => {
+                let i = index(mark).map_err(|n| if self.fault == 42 { 16 } else { n })?;
+                s.present = s.marks[i].ok_or(16u8)?;
+                if self.fault == 41 {
+                    s.marks[i] = None;
+                }
+            }
+        }
+        Ok((true, s))
+    }
+
+    /// The session of these bytes: 12 where they are too few, and then none is read; 13 where a state of it is not proper.
+    fn judged_session(&self, t: &Table, b: &[u8], call: Call) -> Result<Session, u8> {
+        if b.len() < SESSION {
+            let filled = [b, &[0; SESSION][b.len()..]].concat();
+            return Err(if self.fault == 46 && !self.proper_session(t, &filled) { 13 } else { 12 });
+        }
+        let s = self.read_session(b);
+        match call {
+            Call::Step(mask) if self.fault == 48 && self.tick(t, &s.present, mask) == Tick::Illegal => Err(11),
+            _ if self.proper_session(t, b) => Ok(s),
+            _ => Err(13),
+        }
+    }
+
+    /// Whether the present state is proper, and the one under each mark that is set.
+    fn proper_session(&self, t: &Table, b: &[u8]) -> bool {
+        let s = match self.fault {
+            45 => self.read_session(&[&[255], &b[1..]].concat()),
+            _ => self.read_session(b),
+        };
+        let proper = |state: &State| self.proper(t, state);
+        proper(&s.present) && (self.fault == 44 || s.marks.iter().flatten().all(proper))
+    }
+
     // The search.
 
     /// K of a work space: its length divided by 21, rounded down, at most 1,000,000.
@@ -636,9 +745,17 @@ impl Model {
     }
 }
 
-/// A mask of the tasks of which this holds.
-fn bits(holds: impl Fn(usize) -> bool) -> u8 {
+/// A mask of the tasks, or of the marks, of which this holds.
+pub fn bits(holds: impl Fn(usize) -> bool) -> u8 {
     (0..TASKS).filter(|&i| holds(i)).fold(0, |mask, i| mask | 1 << i)
+}
+
+/// Where a mark stands among the eight, or refusal 15.
+fn index(mark: u8) -> Result<usize, u8> {
+    match mark {
+        1..=8 => Ok(mark as usize - 1),
+        _ => Err(15),
+    }
 }
 
 /// P - p.

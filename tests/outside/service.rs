@@ -5,7 +5,7 @@ use crate::check::{self, Called, Play};
 use crate::layout::SLOT;
 use crate::model::{self, End, Replay, State, Table, Tick, Totals, POLICIES, STATE, TOTALS};
 use crate::rng::Rng;
-use crate::{gen, hex, table, Lent, Run, Subject, LIMIT};
+use crate::{gen, table, Lent, Run, Subject};
 
 /// What a full run must have met under each policy.
 pub const MUST: [&str; 9] = [
@@ -61,33 +61,10 @@ impl Run {
             check::served(&expected, &call).map_err(told)?;
             check::beside(&s.reading, &call, replayed).map_err(told)?;
             self.meet(s, expected.0, len);
-            if r.one_in(30) {
-                self.changed(r, &expected, totals, answer).map_err(told)?;
-            }
+            self.changed(r, totals, answer, |c| check::served(&expected, c)).map_err(told)?;
         }
         sheet.stays()?;
         input.stays()
-    }
-
-    /// One changed byte of an outcome, or its answer, which must be found.
-    fn changed(
-        &mut self,
-        r: &mut Rng,
-        expected: &check::Service,
-        mut totals: Lent,
-        mut answer: u64,
-    ) -> Result<(), String> {
-        if totals.len > 0 && r.one_in(2) {
-            let at = r.below(totals.len);
-            totals.space()[at] ^= 1 << r.below(8);
-        } else {
-            answer ^= 1 << r.below(64);
-        }
-        if check::served(expected, &totals.called(answer)).is_ok() {
-            return Err("a changed byte was not found".into());
-        }
-        self.met.add("changed bytes found");
-        Ok(())
     }
 
     fn meet(&mut self, s: &Subject, outcome: Result<Replay, u8>, totals_len: usize) {
@@ -120,18 +97,9 @@ impl Run {
         Ok(())
     }
 
-    /// A generated table of that policy that is safe, or one that is not.
-    fn generated(&self, r: &mut Rng, policy: u8, safe: bool) -> Result<Subject, String> {
-        let wanted = |end: End| if safe { end == End::Closed } else { matches!(end, End::Miss(_)) };
-        (0..1000)
-            .map(|_| self.subject(model::write_sheet(&gen::table_under(r, policy)), LIMIT))
-            .find(|s| wanted(s.levels.as_ref().unwrap().end))
-            .ok_or(format!("no table of policy {policy} is found"))
-    }
-
     /// A list of some thousand ticks that is kept; with an illegal mask after it; and, where one misses, with a shortest list that
     /// does, after idle ticks.
-    fn late_ends(&mut self, r: &mut Rng, s: &Subject) -> Result<(), String> {
+    pub fn late_ends(&mut self, r: &mut Rng, s: &Subject) -> Result<(), String> {
         let t = s.reading.as_ref().unwrap();
         let len = r.range(1000, 6000);
         let (kept, last) = gen::kept_list(r, &self.m, t, len);
@@ -148,15 +116,6 @@ impl Run {
             let misses = self.search(r, s, k * SLOT, k)?.masks;
             let list = [&kept[..], &[0; IDLE], &misses, &after].concat();
             self.known_list(r, s, &list, Replay::Missed(len + IDLE + l, State::default()))?;
-        }
-        Ok(())
-    }
-
-    /// Under each policy a safe table and one that is not.
-    pub fn thousands_of_ticks(&mut self, r: &mut Rng) -> Result<(), String> {
-        for (policy, safe) in (0..POLICIES).flat_map(|policy| [(policy, true), (policy, false)]) {
-            let s = self.generated(r, policy, safe)?;
-            self.late_ends(r, &s).map_err(|e| format!("sheet {}: {e}", hex(&s.sheet)))?;
         }
         Ok(())
     }

@@ -13,8 +13,10 @@ _Static_assert(MOST_STATES * RONCHHEK_STATE_BYTES >= RONCHHEK_MOST_SLOTS * RONCH
 static uint8_t sheet[] = {3, 3, 2, 4, 2, 40, 60, 3, 50, 70, 4, 60, 80, 1, 3, 3}; /* of policy 3, and of 4 */
 static const uint8_t one_state[] = {3, 1, 1, 1, 1, 1, 1}; /* its only state is the start state */
 
+static uint8_t session[RONCHHEK_SESSION_BYTES]; /* every mark is set, and every state is the start state */
+
 struct job {
-    enum { NOTHING, VERDICT, REPLAY, SERVICE, READ, WRITE, PRACTICE, ACCEPTED, NO } kind;
+    enum { NOTHING, VERDICT, REPLAY, SERVICE, READ, WRITE, PRACTICE, STEP, MARK, RETURN, ACCEPTED, NO } kind;
     uint8_t *work, *trace;
     size_t slots;          /* or the states of a file, which are start states in the work space */
     uint64_t answer;
@@ -38,6 +40,12 @@ static void *run(void *given)
         ronchhek_write(table, sizeof table, out, sizeof out);
     if (job->kind == PRACTICE)
         ronchhek_practice(sheet[1], 8, 8, 65535, out, sizeof out);
+    if (job->kind == STEP)
+        job->answer = ronchhek_session_step(sheet, sizeof sheet, session, sizeof session, list[0]);
+    if (job->kind == MARK)
+        job->answer = ronchhek_session_mark(sheet, sizeof sheet, session, sizeof session, 8);
+    if (job->kind == RETURN)
+        job->answer = ronchhek_session_return(sheet, sizeof sheet, session, sizeof session, 8);
     if (job->kind == ACCEPTED)
         job->answer = ronchhek_closed(one_state, sizeof one_state, job->work, job->slots * RONCHHEK_STATE_BYTES);
     if (job->kind == NO)
@@ -56,6 +64,8 @@ static size_t measure(struct job *job)
         exit(2);
     }
     memset(stack, PATTERN, STACK);
+    memset(session, 0, sizeof session);
+    session[0] = 255;
     if (pthread_attr_init(&attributes) || pthread_attr_setstack(&attributes, stack, STACK)
         || pthread_create(&thread, &attributes, run, job) || pthread_join(thread, NULL)) {
         fputs("stack: no thread\n", stderr);
@@ -100,6 +110,25 @@ static int file(struct job job, size_t thread)
     return most <= stated;
 }
 
+/* The calls with no more stack than a replay: whether each is within the header's figure. */
+static int small_calls(struct job job, size_t thread)
+{
+    static const char *const names[] = {[REPLAY] = "replay", [SERVICE] = "replay with totals", [READ] = "read", [WRITE] = "write",
+                                        [PRACTICE] = "practice sheet", [STEP] = "session's step", [MARK] = "session's mark",
+                                        [RETURN] = "session's return"};
+    int within = 1;
+    for (job.kind = REPLAY; job.kind <= RETURN; job.kind++) {
+        size_t measured = used(&job) - thread;
+        if (job.kind >= STEP && job.answer != (uint64_t)RONCHHEK_DONE << 48) {
+            fputs("stack: a call on a session is answered otherwise than expected\n", stderr);
+            exit(2);
+        }
+        printf("stack of a %s: %zu of %d\n", names[job.kind], measured, RONCHHEK_STACK_REPLAY);
+        within &= measured <= RONCHHEK_STACK_REPLAY;
+    }
+    return within;
+}
+
 int main(void)
 {
     static const size_t slots[] = {1, 3120, 16384, 16385, 65536, 262144, 262145, 1000000};
@@ -112,15 +141,7 @@ int main(void)
     }
     struct job job = {NOTHING, work, trace, 0, 0};
     size_t thread = used(&job); /* what a thread itself uses */
-    int status = 0;
-    static const char *const names[] = {[REPLAY] = "replay", [SERVICE] = "replay with totals", [READ] = "read", [WRITE] = "write",
-                                        [PRACTICE] = "practice sheet"};
-    for (job.kind = REPLAY; job.kind <= PRACTICE; job.kind++) {
-        size_t measured = used(&job) - thread;
-        printf("stack of a %s: %zu of %d\n", names[job.kind], measured, RONCHHEK_STACK_REPLAY);
-        if (measured > RONCHHEK_STACK_REPLAY)
-            status = 1;
-    }
+    int status = !small_calls(job, thread);
     job.kind = VERDICT;
     for (size_t i = 0; i < sizeof slots / sizeof *slots; i++) {
         job.slots = slots[i];
