@@ -5,6 +5,7 @@ mod columns;
 mod drawn;
 mod files;
 mod number;
+mod sessions;
 mod sheet;
 mod space;
 mod table;
@@ -35,6 +36,8 @@ fn answer(kind: u8, body: &[u8]) {
         b'f' => files::judge_table(body),
         b'u' => totals::account(body),
         b'z' => totals::call(body),
+        b'x' => sessions::calls(body),
+        b'y' => sessions::calls_for_c(body),
         _ => text::unknown(),
     }
 }

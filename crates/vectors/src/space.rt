@@ -12,6 +12,15 @@ pub fn fill(space: &mut [u8], first: u8, step: u8) {
     }
 }
 
+// Copies bytes to the front of a space, as many as it has room for; the rest of it is 0.
+pub fn copy(bytes: &[u8], space: &mut [u8]) {
+    let mut i: usize = 0;
+    while i < space.len() {
+        space[i] = text::byte(bytes, i);
+        i += 1;
+    }
+}
+
 // Whether a place is within a part, and its byte another than it was.
 fn counts(from: usize, to: usize, at: usize, byte: u8, before: u8) -> bool {
     from <= at && at < to && byte != before

@@ -52,7 +52,7 @@ fn hex(bytes: &[u8]) {
 }
 
 // Writes a byte as two hexadecimal digits.
-fn digits(x: u8) {
+pub fn digits(x: u8) {
     io::print_hex(STDOUT_FILENO, x as u64, 2);
 }
 

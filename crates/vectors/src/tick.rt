@@ -47,6 +47,15 @@ pub fn print(s: State) {
     }
 }
 
+// Prints the answer of a tick.
+pub fn print_answer(answer: TickAnswer) {
+    match answer {
+        TickAnswer::Next => text::put(b" next"),
+        TickAnswer::Missed => text::put(b" missed"),
+        TickAnswer::Refused(r) => text::refused(r),
+    }
+}
+
 // Kind k, a table, a state and a mask: the answer of one tick, and its state.
 pub fn tick(body: &[u8]) {
     let t = table::of_body(body);
@@ -54,11 +63,7 @@ pub fn tick(body: &[u8]) {
     let ticked = s.tick(t, text::byte(body, table::LENGTH + LENGTH));
     text::put(b"tick");
     let answer = ticked.answer;
-    match answer {
-        TickAnswer::Next => text::put(b" next"),
-        TickAnswer::Missed => text::put(b" missed"),
-        TickAnswer::Refused(r) => text::refused(r),
-    }
+    print_answer(answer);
     print(ticked.state);
     text::end();
 }
