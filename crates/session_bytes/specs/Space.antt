@@ -2,7 +2,7 @@
 -- of eight marks. A state's bytes are those of a slot (Bytes.antt of `states`).
 use Prim.Native.Nat.{ℕ, zero, suc, _+_, _*_}
 use mathlib.Core.Bool.{true}
-use mathlib.Core.List.{List, _∷_}
+use mathlib.Core.List.{List, [], _∷_}
 use lib.Dec.{ltb}
 use lib.ListN.{length, getD}
 use lib.Seq.{sets}
@@ -78,3 +78,8 @@ sheetCall sheet b c =
 unfoldable pub sheetSpace : List ℕ → List ℕ → Call → List ℕ
 sheetSpace sheet b c =
     pick (ltb 0 (spaceRefusal (sheetOf sheet .answer) b)) b (spaceAfter (outcome (sheetOf sheet .table) (sessionFrom b) c) b)
+
+-- the space after a list of calls with the same sheet
+unfoldable pub callsSpace : List ℕ → List ℕ → List Call → List ℕ
+callsSpace sheet b [] = b
+callsSpace sheet b (c ∷ cs) = callsSpace sheet (sheetSpace sheet b c) cs
