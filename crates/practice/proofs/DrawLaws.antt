@@ -16,7 +16,7 @@ use Rattle.tasks.proofs.Tables.{FitTask}
 use Rattle.practice.specs.Practice.{drawn, draw, gapDrawn, deadlineDrawn, workDrawn, practiceTable}
 
 -- the next draw
-pub draw-next : (k s : ℕ) → drawn (draw k s) ≡ draw (k + 1) s
+draw-next : (k s : ℕ) → drawn (draw k s) ≡ draw (k + 1) s
 unfolding draw
 draw-next k s = let e : suc k ≡ k + 1 = omega arith in ap (λ i. draw i s) e
 

@@ -1,23 +1,21 @@
 -- The record law (document 02, §8), and that from a fresh session no call answers 13. Assumes nothing.
-use Prim.Native.Nat.{ℕ, suc, _+_, _-_, _≤_, _<_}
+use Prim.Native.Nat.{ℕ, _+_, _-_, _<_}
 use mathlib.Core.Path.{_≡_, refl, sym, ap, subst, _∙_}
-use mathlib.Core.Bool.{Bool, true, false, _&&_, _||_}
+use mathlib.Core.Bool.{true, false, _&&_}
 use mathlib.Core.List.{List, [], _∷_, _++_}
 use native.Mathlib.Omega.{arith}
 use native.Mathlib.Decide.{ℕ-discrete}
 use lib.Dec.{eqb, ltb}
-use lib.ListN.{getD}
-use borrow.Author.Tests.{ltb-true, ltb-false, lt-ltb, le-ltb, eq-eqb, ne-eqb}
-use Rattle.lists.specs.Lists.{eight, pick, any}
+use borrow.Author.Tests.{ltb-true, ltb-false, le-ltb, eq-eqb, ne-eqb}
+use Rattle.lists.specs.Lists.{pick}
 use Rattle.tasks.specs.Table.{outside, tableFault}
-use Rattle.tasks.specs.State.{start, improper}
-use Rattle.tasks.specs.Tick.{answered, ticked}
-use Rattle.tasks.specs.Replay.{played, replayed}
+use Rattle.tasks.specs.State.{improper}
+use Rattle.tasks.specs.Tick.{ticked}
+use Rattle.tasks.specs.Replay.{played}
 use Rattle.tasks.specs.declared.state.State.{State}
 use Rattle.tasks.specs.declared.table.Table.{Table}
 use Rattle.tasks.specs.declared.tick.TickAnswer.{TickAnswer}
 use Rattle.tasks.specs.declared.tick.TickAnswer.the-variants as Tick
-use Rattle.tasks.specs.declared.tick.Ticked.{Ticked}
 use Rattle.session.specs.Session.{empty, fresh, markIn, markAt, firstOf, improperMark, improperSession, sessionFault, beyond, neverSet, setRefusal, returnRefusal, stepTick, moved, afterTick, stepped, marked, unlessRefused, markSet, returned, stepAnswer, callAnswer, called}
 use Rattle.session.specs.Record.{Stored, Record, blank, storedUnder, broughtBack, noted, sessionAfter, recordAfter, KeptAs, MarkOnRecord, OnRecord}
 use Rattle.session.specs.Record.Stored.{Nothing, Listed}
@@ -32,7 +30,6 @@ use Rattle.lists.proofs.Bools.{by-bool, clash}
 use Rattle.lists.proofs.Counts.{none-any}
 use Rattle.lists.proofs.Picks.{pick-yes, pick-no}
 use Rattle.lists.proofs.Fill.{eight-at}
-use Rattle.tasks.proofs.Tables.{pick-zero}
 use Rattle.tasks.proofs.Played.{tick-eleven, replayed-played}
 use Rattle.tasks.proofs.Joined.{kept-proper, kept-more}
 use Rattle.session.proofs.MarkLaws.{within}

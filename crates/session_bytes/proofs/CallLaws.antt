@@ -1,12 +1,9 @@
 -- What a call on a session in bytes answers, and the space after it. Assumes nothing.
 use Prim.Native.Nat.{ℕ, _≤_, _<_}
-use mathlib.Core.Path.{_≡_, refl, sym, ap, _∙_}
+use mathlib.Core.Path.{_≡_, sym, ap, _∙_}
 use mathlib.Core.List.{List}
-use native.Mathlib.Omega.{arith}
-use lib.Dec.{ltb}
 use lib.ListN.{length}
 use borrow.Author.Tests.{lt-ltb, le-ltb}
-use Rattle.lists.specs.Lists.{pick}
 use Rattle.tasks.specs.Sheet.{sheetOf}
 use Rattle.tasks.specs.declared.table.Table.{Table}
 use Rattle.tasks.specs.declared.sheet.Reading.the-variants as Reading
@@ -14,7 +11,7 @@ use Rattle.session.specs.Session.{outcome, sessionAnswer}
 use Rattle.session.specs.declared.calls.Call.{Call}
 use Rattle.session.specs.declared.calls.Called.{Called}
 use Rattle.session.specs.declared.calls.SessionAnswer.{SessionAnswer}
-use Rattle.session.specs.declared.calls.SessionAnswer.the-variants.{Done, Missed, Refused}
+use Rattle.session.specs.declared.calls.SessionAnswer.the-variants.{Refused}
 use Rattle.session_bytes.specs.Space.{sessionFrom, spaceBy, spaceAfter, sheetCall, sheetSpace}
 
 -- with a table, by the call's answer

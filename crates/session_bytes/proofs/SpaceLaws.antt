@@ -1,12 +1,11 @@
 -- The states of a session in its bytes, one by one. Assumes nothing.
-use Prim.Native.Nat.{ℕ, zero, suc, _+_, _-_, _*_, _≤_, _<_}
-use mathlib.Core.Path.{_≡_, refl, sym, ap, _∙_}
+use Prim.Native.Nat.{ℕ, zero, suc, _+_, _-_, _*_, _≤_}
+use mathlib.Core.Path.{_≡_, refl, ap, _∙_}
 use mathlib.Core.List.{List, _++_}
 use native.Mathlib.Omega.{arith}
 use native.Mathlib.Numerals.{add-one}
 use lib.ListN.{length, getD, take, drop, length-drop}
 use lib.Seq.{sets, length-sets, take-all, getD-drop}
-use Rattle.lists.specs.Lists.{pick}
 use Rattle.states.specs.Bytes.{stateFrom, stateIn, stateBytes}
 use Rattle.tasks.specs.declared.state.State.{State}
 use Rattle.slots.specs.StateSpace.{stateSpace}

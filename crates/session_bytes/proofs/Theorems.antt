@@ -2,19 +2,17 @@
 use Prim.Native.Nat.{ℕ, zero, suc, _+_, _*_, _≤_, _<_}
 use mathlib.Core.Path.{_≡_, refl, sym, ap, ap₂, subst, _∙_}
 use mathlib.Core.Logic.{_⊎_}
-use mathlib.Core.Logic._⊎_.{inl, inr}
+use mathlib.Core.Logic._⊎_.{inl}
 use mathlib.Core.Bool.{true, false}
 use mathlib.Core.List.{List, [], _∷_}
 use native.Mathlib.Omega.{arith}
 use native.Mathlib.Decide.{ℕ-discrete}
-use lib.Dec.{ltb}
 use lib.ListN.{length, getD}
 use lib.Seq.{sets, length-sets}
-use Rattle.lists.specs.Lists.{eight, pick, bitsOf}
+use Rattle.lists.specs.Lists.{eight, bitsOf}
 use Rattle.tasks.specs.Table.{tableFault}
 use Rattle.tasks.specs.Tick.{bit}
 use Rattle.tasks.specs.Sheet.{sheetOf}
-use Rattle.tasks.specs.declared.state.State.{State}
 use Rattle.tasks.specs.declared.table.Table.{Table}
 use Rattle.tasks.specs.declared.sheet.Reading.the-variants as Reading
 use Rattle.states.specs.Bytes.{stateFrom, stateBytes}
@@ -35,7 +33,7 @@ use Rattle.session.proofs.Theorems.{record-law, no-thirteen}
 use Rattle.session.proofs.CallLaws.{not-done}
 use Rattle.session_bytes.proofs.SpaceLaws.{marks-length}
 use Rattle.session_bytes.proofs.CallLaws.{sheet-calls}
-use Rattle.session_bytes.proofs.Plain.{Eight, PlainMark, Plain, from-plain, called-plain}
+use Rattle.session_bytes.proofs.Plain.{Plain, from-plain, called-plain}
 
 -- ---- which bytes a mark's writing touches
 

@@ -9,7 +9,6 @@ use lib.Seq.{sets}
 use Rattle.lists.specs.Lists.{eight, pick, bitsOf}
 use Rattle.tasks.specs.Tick.{bit}
 use Rattle.tasks.specs.Sheet.{sheetOf}
-use Rattle.tasks.specs.declared.table.Table.{Table}
 use Rattle.tasks.specs.declared.sheet.Reading.{Reading}
 use Rattle.tasks.specs.declared.sheet.Reading.the-variants as Reading
 use Rattle.states.specs.Bytes.{stateFrom, stateBytes}

@@ -1,6 +1,6 @@
 // A session read from its bytes. Those of a mark that is not set are not read.
 ghost use mathlib.Core.Path.{_≡_};
-ghost use Prim.Native.Nat.{_+_, _*_, _<_, _≤_};
+ghost use Prim.Native.Nat.{_+_, _<_, _≤_};
 ghost use lib.ListN.{length};
 ghost use Rattle.states.specs.Bytes.{stateFrom};
 ghost use Rattle.session_bytes.specs.Space.{place, markFrom, sessionFrom};

@@ -48,7 +48,8 @@ fn put_mark(space: &mut [u8], x: Session, i: usize)
 {
     let mark = x.marks[i];
     let state = mark.state;
-    if mark.set {
+    let set = mark.set;
+    if set {
         put_state(space, i + 1, state);
     }
 }

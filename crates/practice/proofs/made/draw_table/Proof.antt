@@ -1,6 +1,5 @@
 -- The invariant: the first i tasks are drawn, and s is the last draw. Assumes nothing.
 use Prim.Native.Nat.{_-_, _≤_}
-use mathlib.Core.Path.{refl, _∙_}
 use native.Mathlib.Omega.{arith}
 use Rattle.practice.proofs.DrawLaws.{few-entries, Drawing, drawing-start, drawing-step, drawing-end}
 use borrow.Author.Needs.{needs}

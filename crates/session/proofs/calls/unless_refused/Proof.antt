@@ -1,7 +1,6 @@
 use mathlib.Core.Path.{refl}
 use borrow.Author.Tests.{lt-ltb, le-ltb}
 use Rattle.lists.proofs.Picks.{pick-yes, pick-no}
-use borrow.Author.Needs.{needs}
 use Rattle.session.proofs.calls.unless_refused.Statement.{statement}
 use Rattle.session.proofs.calls.unless_refused.Tie as tie
 

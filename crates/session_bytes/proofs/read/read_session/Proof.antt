@@ -1,5 +1,5 @@
 use Prim.Native.Nat.{_-_, _≤_}
-use mathlib.Core.Path.{_≡_, ap, ap₂, _∙_}
+use mathlib.Core.Path.{ap, ap₂}
 use lib.ListN.{length}
 use Rattle.lists.proofs.Fill.{Filled, filled-start, filled-store, filled-end}
 use Rattle.session.specs.Session.{empty}

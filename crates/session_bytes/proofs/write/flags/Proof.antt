@@ -1,13 +1,12 @@
 use Prim.Native.Nat.{ℕ, suc, _+_, _-_, _^_, _≤_}
 use mathlib.Core.Path.{_≡_, refl, ap, _∙_}
 use mathlib.Core.Bool.{Bool}
-use lib.ListN.{length, getD}
+use lib.ListN.{length}
 use lib.Pow.{pow-mono}
 use native.Mathlib.Nat.{pow-suc}
 use Rattle.lists.specs.Lists.{pick, bitsOf}
 use Rattle.lists.proofs.Turns.{bits-none, bits-turn, bits-less, bits-end, pick-most}
 use Rattle.session.specs.Session.{empty, markIn}
-use Rattle.session.specs.declared.marks.Session.{Session}
 use Rattle.session.proofs.MarkLaws.{length-mapped, any-default}
 use Rattle.session_bytes.specs.Space.{flags}
 use native.Mathlib.Omega.{arith}

@@ -1,4 +1,3 @@
-use mathlib.Core.Path.{_∙_}
 use Rattle.session_bytes.specs.Space.{place}
 use Rattle.session_bytes.proofs.SpaceLaws.{state-put}
 use native.Mathlib.Omega.{arith}

@@ -1,7 +1,5 @@
 -- `vectors::sessions::of_body` is safe and ends. The loop's invariant: `i` is at most 8. The measure is what is left of it. Assumes nothing.
 use Prim.Native.Nat.{_-_, _≤_}
-use mathlib.Core.Path.{_≡_}
-use lib.ListN.{length}
 use borrow.Author.Needs.{needs}
 use Rattle.vectors.proofs.sessions.of_body.Statement.{statement}
 use Rattle.vectors.proofs.sessions.of_body.Tie as tie

@@ -1,4 +1,3 @@
-use mathlib.Core.Path.{_∙_}
 use borrow.Author.Tests.{lt-ltb, le-ltb}
 use Rattle.lists.proofs.Picks.{pick-yes, pick-no}
 use Rattle.tasks.proofs.Answers.{tick-is}
