@@ -9,7 +9,7 @@ use Rattle.lists.specs.Lists.{eight, pick}
 use Rattle.lists.proofs.Fill.{eight-at}
 use Rattle.tasks.specs.Table.{tableFault}
 use Rattle.tasks.specs.State.{start, improper}
-use Rattle.tasks.specs.Tick.{bit, illegal, released, chosen, ran, after, missed, answered, ticked}
+use Rattle.tasks.specs.Tick.{bit, illegal, released, chosen, ran, missed, answered, ticked}
 use Rattle.tasks.specs.Replay.{played}
 use Rattle.tasks.specs.declared.state.State.{State}
 use Rattle.tasks.specs.declared.table.Table.{Table}
@@ -18,7 +18,7 @@ use Rattle.tasks.specs.declared.play.Outcome.the-variants.{Kept, Missed}
 use Rattle.tasks.specs.declared.play.ReplayAnswer.the-variants.{Played, Refused}
 use Rattle.tasks.specs.declared.play.Replayed.{Replayed}
 use Rattle.tasks.proofs.Proper.{start-proper}
-use Rattle.tasks.proofs.Answered.{ticked-legal, ticked-illegal, ticked-proper}
+use Rattle.tasks.proofs.Answered.{ticked-steps, ticked-illegal, ticked-proper}
 use Rattle.tasks.proofs.Played.{played-step, played-end, replayed-played}
 use Rattle.service.specs.Totals.{countTicks, releases, runsIn, releaseCount, ticksRun, accountFrom, accountOf}
 use Rattle.service.specs.Raised.{Room, raisedAt}
@@ -72,10 +72,6 @@ module _ (t : Table) (l : List ℕ) where
             (r-is : r ≡ released t s (getD l i 0)) (run-is : run ≡ chosen t r) (longer-is : longer′ ≡ eight (raisedAt longer run))
             (next-is : next ≡ ran r run)
           where
-            after-is : next ≡ after t s (getD l i 0)
-            unfolding after
-            after-is = cc
-
             which : (j : ℕ) → j < 8 → getD named j false ≡ releases j s (getD l i 0)
             which j b = ap (λ (k : List Bool). getD k j false) named-is ∙ eight-at false (bit (getD l i 0)) j b
 
@@ -83,7 +79,7 @@ module _ (t : Table) (l : List ℕ) where
             who j b = ap (λ (k : List Bool). getD k j false) (run-is ∙ ap (chosen t) r-is)
 
             now : ticked t s (getD l i 0) ≡ answered (pick (missed t next) Tick.Missed Tick.Next) next
-            now = rw after-is (ticked-legal t s (getD l i 0) valid (x .proper) legal)
+            now = ticked-steps t s (getD l i 0) r-is run-is next-is valid (x .proper) legal
 
             pub playing-missed :
                 missed t next ≡ true → accountFrom (record { answer = Played (Missed (i + 1)); state = next }) more′ longer′ ≡ accountOf t l

@@ -1,14 +1,15 @@
 -- The answer of a tick, case by case. Assumes nothing.
 use Prim.Native.Nat.{ℕ, _≤_, _<_}
 use mathlib.Core.Path.{_≡_, refl, sym, ap, _∙_}
-use mathlib.Core.Bool.{true, false}
+use mathlib.Core.Bool.{Bool, true, false}
+use mathlib.Core.List.{List}
 use native.Mathlib.Omega.{arith}
 use lib.Dec.{ltb}
 use borrow.Author.Tests.{ltb-true, ltb-false, lt-ltb, le-ltb}
 use Rattle.lists.specs.Lists.{pick}
 use Rattle.tasks.specs.Table.{tableFault}
 use Rattle.tasks.specs.State.{improper}
-use Rattle.tasks.specs.Tick.{illegal, after, missed, refusal, answered, ticked}
+use Rattle.tasks.specs.Tick.{illegal, released, chosen, ran, after, missed, refusal, answered, ticked}
 use Rattle.tasks.specs.declared.state.State.{State}
 use Rattle.tasks.specs.declared.table.Table.{Table}
 use Rattle.tasks.specs.declared.tick.TickAnswer.the-variants.{Next, Missed, Refused}
@@ -64,6 +65,16 @@ module _ (t : Table) (s : State) (mask : ℕ) where
       by-bool (missed t (after t s mask))
       (λ e. rw e (sym (ticked-missed none e)))
       (λ e. rw e (sym (ticked-next none e)))
+
+  module _ {r next : State} {run : List Bool} (r-is : r ≡ released t s mask) (run-is : run ≡ chosen t r) (next-is : next ≡ ran r run) where
+    steps-after : next ≡ after t s mask
+    unfolding after
+    steps-after = cc
+
+    -- LAW: .. and so, by its steps
+    pub ticked-steps :
+        tableFault t ≡ 0 → improper t s ≡ false → illegal t s mask ≡ false → ticked t s mask ≡ answered (pick (missed t next) Missed Next) next
+    ticked-steps valid proper legal = rw steps-after (ticked-legal valid proper legal)
 
   refused-mask : tableFault t ≡ 0 → improper t s ≡ false → illegal t s mask ≡ true → refusal t s mask ≡ 11
   unfolding refusal

@@ -2,16 +2,17 @@
 use Prim.Native.Nat.{ℕ, _+_, _≤_, _<_}
 use mathlib.Core.Path.{_≡_, refl, sym, ap, _∙_}
 use mathlib.Core.List.{List, [], _∷_}
-use mathlib.Core.Bool.{false}
+use mathlib.Core.Bool.{Bool, true, false}
 use native.Mathlib.Omega.{arith}
 use native.Mathlib.Numerals.{add-one}
 use lib.Dec.{ltb}
 use lib.ListN.{length, drop, getD, drop-of-length-le}
 use lib.Seq.{drop-cons}
 use borrow.Author.Tests.{lt-ltb, le-ltb}
+use Rattle.lists.specs.Lists.{pick}
 use Rattle.tasks.specs.Table.{tableFault}
 use Rattle.tasks.specs.State.{start, improper}
-use Rattle.tasks.specs.Tick.{illegal, after, missed, ticked}
+use Rattle.tasks.specs.Tick.{illegal, released, chosen, ran, after, missed, answered, ticked}
 use Rattle.tasks.specs.Answers.{replayAnswer}
 use Rattle.tasks.specs.Replay.{playNext, played, replayed, outcomeTick, replayTick}
 use Rattle.tasks.specs.declared.state.State.{State}
@@ -19,14 +20,14 @@ use Rattle.tasks.specs.declared.table.Table.{Table}
 use Rattle.tasks.specs.declared.tick.TickAnswer.{TickAnswer}
 use Rattle.tasks.specs.declared.tick.TickAnswer.the-variants as Tick
 use Rattle.tasks.specs.declared.tick.Ticked.{Ticked}
-use Rattle.tasks.specs.declared.play.Outcome.the-variants.{Kept}
+use Rattle.tasks.specs.declared.play.Outcome.the-variants.{Kept, Missed}
 use Rattle.tasks.specs.declared.play.ReplayAnswer.the-variants.{Played, Refused}
 use Rattle.tasks.specs.declared.play.Replayed.{Replayed}
 use Rattle.lists.proofs.Bools.{by-bool}
 use Rattle.lists.proofs.Picks.{pick-yes, pick-no}
 use Rattle.tasks.proofs.Answers.{replay-told}
 use Rattle.tasks.proofs.Proper.{start-proper}
-use Rattle.tasks.proofs.Answered.{ticked-legal, ticked-illegal, ticked-proper}
+use Rattle.tasks.proofs.Answered.{ticked-legal, ticked-steps, ticked-illegal, ticked-proper}
 
 pub drop-step : (l : List ℕ) (i : ℕ) → i < length l → drop i l ≡ getD l i 0 ∷ drop (i + 1) l
 drop-step l i h = drop-cons l i 0 h ∙ ap (λ n. getD l i 0 ∷ drop n l) (sym (add-one i))
@@ -39,6 +40,29 @@ module _ (t : Table) where
   unfolding played
   played-step s {r} {a} l i h e q =
       rw (drop-step l i h, ← e) (ap (playNext (i + 1) s (r .state) (played t (r .state) (i + 1) (drop (i + 1) l))) q)
+
+  -- .. and from the steps of the tick, where the table is valid and the state proper
+  module _ (valid : tableFault t ≡ 0) (s : State) (proper : improper t s ≡ false) (l : List ℕ) (i : ℕ) (h : i < length l) where
+    pub played-refused :
+        illegal t s (getD l i 0) ≡ true → played t s i (drop i l) ≡ record { answer = Refused 11 (i + 1); state = s }
+    played-refused bad = played-step s l i h (sym (ticked-illegal t s (getD l i 0) valid proper bad)) refl
+
+    module _ (legal : illegal t s (getD l i 0) ≡ false) {r next : State} {run : List Bool}
+        (r-is : r ≡ released t s (getD l i 0)) (run-is : run ≡ chosen t r) (next-is : next ≡ ran r run)
+      where
+        now : ticked t s (getD l i 0) ≡ answered (pick (missed t next) Tick.Missed Tick.Next) next
+        now = ticked-steps t s (getD l i 0) r-is run-is next-is valid proper legal
+
+        pub played-missed : missed t next ≡ true → played t s i (drop i l) ≡ record { answer = Played (Missed (i + 1)); state = next }
+        played-missed m =
+            let e : ticked t s (getD l i 0) ≡ answered Tick.Missed next = rw m at now in
+            played-step s l i h (sym e) refl
+
+        pub played-next :
+            missed t next ≡ false → (improper t next ≡ false) × (played t s i (drop i l) ≡ played t next (i + 1) (drop (i + 1) l))
+        played-next m =
+            let e : ticked t s (getD l i 0) ≡ answered Tick.Next next = rw m at now in
+            (rw e at (ticked-proper t s (getD l i 0) (ap (λ a. a .answer) e)), played-step s l i h (sym e) refl)
 
   -- where no mask is left, the state is kept
   pub played-end :

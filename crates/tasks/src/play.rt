@@ -1,12 +1,12 @@
 // The replay of a release list, one mask a tick, from the start state.
 ghost use mathlib.Core.Path.{_≡_};
 ghost use Prim.Native.Nat.{_≤_};
+ghost use Rattle.tasks.specs.Table.{tableFault};
 ghost use Rattle.tasks.specs.State.{start};
 ghost use Rattle.tasks.specs.Answers.{replayAnswer};
 ghost use Rattle.tasks.specs.Replay.{played, replayed, replayTick};
 use crate::state::State;
 use crate::table::Table;
-use crate::tick::TickAnswer;
 
 // How a played list ended: kept, or missed at the tick of that number, the first being 1.
 pub enum Outcome {
@@ -26,34 +26,33 @@ pub struct Replayed {
     pub state: State,
 }
 
-// The masks played from the start state, up to the first miss or refusal; later masks are not read.
+// The masks of a valid table played from the start state, up to the first miss or refusal; later masks are not read. Every state on the way is proper, so of a
+// tick's refusals only that of the mask is asked for.
 fn play(t: Table, masks: &[u8]) -> Replayed
+    requires { ⌜ tableFault t ≡ 0 ⌝ }
     ensures { λ r. ⌜ r ≡ played t start 0 (now (masks .entry)) ⌝ }
 {
     let mut s = State::start();
     let mut i: usize = 0;
     while i < masks.len() {
-        let r = s.tick(t, masks[i]);
-        let answer = r.answer;
-        let next = r.state;
+        let mask = masks[i];
         i += 1;
-        match answer {
-            TickAnswer::Next => {
-                s = next;
-            }
-            TickAnswer::Missed => {
-                return Replayed {
-                    answer: ReplayAnswer::Played(Outcome::Missed(i)),
-                    state: next,
-                };
-            }
-            TickAnswer::Refused(number) => {
-                return Replayed {
-                    answer: ReplayAnswer::Refused(number, i),
-                    state: s,
-                };
-            }
+        if s.illegal(t, mask) {
+            return Replayed {
+                answer: ReplayAnswer::Refused(11, i),
+                state: s,
+            };
         }
+        let released = s.release(t, mask);
+        let run = released.choose(t);
+        let next = released.run(run);
+        if next.missed(t) {
+            return Replayed {
+                answer: ReplayAnswer::Played(Outcome::Missed(i)),
+                state: next,
+            };
+        }
+        s = next;
     }
     Replayed {
         answer: ReplayAnswer::Played(Outcome::Kept),

@@ -1,17 +1,18 @@
 use Prim.Native.Nat.{_≤_, _-_}
 use mathlib.Core.Path.{_≡_, sym, _∙_}
+use mathlib.Core.Bool.{false}
 use lib.ListN.{length, drop}
-use Rattle.tasks.specs.State.{start}
+use Rattle.tasks.specs.State.{start, improper}
 use Rattle.tasks.specs.Replay.{played}
-use Rattle.tasks.proofs.Answers.{tick-is}
-use Rattle.tasks.proofs.Played.{played-step, played-end}
+use Rattle.tasks.proofs.Proper.{start-proper}
+use Rattle.tasks.proofs.Played.{played-refused, played-missed, played-next, played-end}
 use native.Mathlib.Omega.{arith}
 use borrow.Author.Needs.{needs}
 use Rattle.tasks.proofs.play.play.Statement.{statement}
 use Rattle.tasks.proofs.play.play.Tie as tie
 
 abbrev Inv-loop : tie.InvT-loop
-Inv-loop t masks s₀ i₀ s i = (i ≤ length masks) × (played t start 0 masks ≡ played t s i (drop i masks))
+Inv-loop t masks s₀ i₀ s i = (i ≤ length masks) × (improper t s ≡ false) × (played t start 0 masks ≡ played t s i (drop i masks))
 
 abbrev μ-loop : tie.MeasureT-loop
 μ-loop t masks s₀ i₀ s i = length masks - i
@@ -20,48 +21,61 @@ start-requires : tie.Need-start-requires Inv-loop μ-loop
 start-requires c κs = search needs
 
 loop-holds : tie.Need-loop-holds Inv-loop μ-loop
-loop-holds c = (omega arith, rw (c .start .ensures))
+loop-holds c = (omega arith, rw (c .start .ensures) (start-proper (c .before .before .args .t)), rw (c .start .ensures))
 
-shared-slice-read-tick : tie.Need-shared-slice-read-tick Inv-loop μ-loop
-shared-slice-read-tick c = search needs
-
-tick-requires : tie.Need-tick-requires Inv-loop μ-loop
-tick-requires c κs = search needs
+shared-slice-read-mask : tie.Need-shared-slice-read-mask Inv-loop μ-loop
+shared-slice-read-mask c = search needs
 
 add-i : tie.Need-add-i Inv-loop μ-loop
 add-i c = search needs
 
-enum-told : tie.Need-enum-told Inv-loop μ-loop
-enum-told c = search needs
+illegal-requires : tie.Need-illegal-requires Inv-loop μ-loop
+illegal-requires c κs = search needs
+
+returns : tie.Need-returns Inv-loop μ-loop
+returns c =
+    let h = c .before .before .before .before in
+    let a = h .before .before .before in
+    sym (h .loop .inv .2 ∙ played-refused (a .args .t) (a .pre) (h .loop .s) (h .loop .inv .1) (a .args .masks .now) (h .loop .i) (c .before .before .before .loop-test .taken) (sym (c .before .illegal .ensures) ∙ c .if1 .taken))
+
+release-requires : tie.Need-release-requires Inv-loop μ-loop
+release-requires c κs = search needs
+
+choose-requires : tie.Need-choose-requires Inv-loop μ-loop
+choose-requires c κs = search needs
+
+run-requires : tie.Need-run-requires Inv-loop μ-loop
+run-requires c κs = search needs
+
+missed-requires : tie.Need-missed-requires Inv-loop μ-loop
+missed-requires c κs = search needs
+
+returns-2 : tie.Need-returns-2 Inv-loop μ-loop
+returns-2 c =
+    let h = c .before .before .before .before .before .before .before .before .before in
+    let a = h .before .before .before in
+    let m = c .before .before .before .before .before .before in
+    let legal = sym (m .illegal .ensures) ∙ c .before .before .before .before .before .if1 .left in
+    sym
+    (h .loop .inv .2
+    ∙ played-missed (a .args .t) (a .pre) (h .loop .s) (h .loop .inv .1) (a .args .masks .now) (h .loop .i) (c .before .before .before .before .before .before .before .before .loop-test .taken) legal (c .before .before .before .before .release .ensures) (c .before .before .before .choose .ensures) (c .before .before .run .ensures) (sym (c .before .missed .ensures) ∙ c .if2 .taken))
 
 loop-less : tie.Need-loop-less Inv-loop μ-loop
 loop-less c = search needs
 
 loop-again : tie.Need-loop-again Inv-loop μ-loop
 loop-again c =
-    let h = c .before .before .before .before .before .before in
-    (omega arith, h .loop .inv .1 ∙ played-step _ _ _ _ (omega arith) (tick-is (c .before .before .before .tick .ensures)) (c .enum-told .given .1))
-
-enum-told-2 : tie.Need-enum-told-2 Inv-loop μ-loop
-enum-told-2 c = search needs
-
-returns : tie.Need-returns Inv-loop μ-loop
-returns c =
-    let h = c .before .before .before .before .before .before in
-    sym (h .loop .inv .1 ∙ played-step _ _ _ _ (omega arith) (tick-is (c .before .before .before .tick .ensures)) (c .enum-told2 .given .1))
-
-enum-known-answer : tie.Need-enum-known-answer Inv-loop μ-loop
-enum-known-answer c = search needs
-
-returns-2 : tie.Need-returns-2 Inv-loop μ-loop
-returns-2 c =
-    let h = c .before .before .before .before .before .before .before in
-    sym (h .loop .inv .1 ∙ played-step _ _ _ _ (omega arith) (tick-is (c .before .before .before .before .tick .ensures)) (c .before .answer .given .1))
+    let h = c .before .before .before .before .before .before .before .before .before in
+    let a = h .before .before .before in
+    let m = c .before .before .before .before .before .before in
+    let legal = sym (m .illegal .ensures) ∙ c .before .before .before .before .before .if1 .left in
+    let next = played-next (a .args .t) (a .pre) (h .loop .s) (h .loop .inv .1) (a .args .masks .now) (h .loop .i) (c .before .before .before .before .before .before .before .before .loop-test .taken) legal (c .before .before .before .before .release .ensures) (c .before .before .before .choose .ensures) (c .before .before .run .ensures) (sym (c .before .missed .ensures) ∙ c .if2 .left) in
+    (omega arith, next .0, h .loop .inv .2 ∙ next .1)
 
 returns-3 : tie.Need-returns-3 Inv-loop μ-loop
 returns-3 c =
     let h = c .before in
-    sym (h .loop .inv .1 ∙ played-end _ _ _ _ (c .loop-test .left))
+    sym (h .loop .inv .2 ∙ played-end _ _ _ _ (c .loop-test .left))
 
 pub play-spec : {M : Type 1} → statement M
 play-spec =
@@ -71,14 +85,15 @@ play-spec =
     μ-loop
     start-requires
     loop-holds
-    shared-slice-read-tick
-    tick-requires
+    shared-slice-read-mask
     add-i
-    enum-told
+    illegal-requires
+    returns
+    release-requires
+    choose-requires
+    run-requires
+    missed-requires
+    returns-2
     loop-less
     loop-again
-    enum-told-2
-    returns
-    enum-known-answer
-    returns-2
     returns-3)

@@ -1,5 +1,6 @@
 use mathlib.Core.Path.{_∙_}
 use Rattle.tasks.proofs.Played.{replay-names, replayed-refused, replayed-played}
+use native.Mathlib.Omega.{arith}
 use borrow.Author.Needs.{needs}
 use Rattle.tasks.proofs.play.replay.Statement.{statement}
 use Rattle.tasks.proofs.play.replay.Tie as tie
@@ -18,7 +19,7 @@ returns c =
     (rw (e, c .start .ensures) (replayed-refused (a .t) (a .masks .now) (rw e at (c .before .if1 .taken))))
 
 play-requires : tie.Need-play-requires
-play-requires c κs = search needs
+play-requires c κs = omega (arith, rw (c .before .fault .ensures) at (c .if1 .left))
 
 returns-2 : tie.Need-returns-2
 returns-2 c =
