@@ -4,11 +4,9 @@ use mathlib.Core.Path.{_≡_, refl, sym, ap, _∙_}
 use mathlib.Core.Bool.{true, false}
 use mathlib.Core.List.{List, [], _∷_}
 use native.Mathlib.Omega.{arith}
-use native.Mathlib.Decide.{decLt}
-use lib.Dec.{ltb}
 use lib.ListN.{length, getD}
 use lib.Seq.{length-take-le, getD-take}
-use borrow.Author.Tests.{ltb-true, ltb-false, le-ltb, ne-eqb}
+use borrow.Author.Tests.{le-ltb, ne-eqb}
 use Rattle.tasks.specs.Table.{tableFault}
 use Rattle.tasks.specs.Sheet.{sheetOf, afterReading}
 use Rattle.tasks.specs.State.{start}
@@ -16,15 +14,14 @@ use Rattle.tasks.specs.Tick.{illegal, after, missed, answered, ticked}
 use Rattle.tasks.specs.Masks.{freeMask}
 use Rattle.tasks.specs.declared.state.State.{State}
 use Rattle.tasks.specs.declared.table.Table.{Table}
-use Rattle.tasks.specs.declared.sheet.Reading.{Reading}
 use Rattle.tasks.specs.declared.sheet.Reading.the-variants as Reading
 use Rattle.tasks.specs.declared.tick.TickAnswer.the-variants as Tick
 use Rattle.lists.proofs.Bools.{by-bool}
 use Rattle.tasks.proofs.Answered.{ticked-legal}
-use Rattle.tasks.proofs.Listed.{sheet-refusal, read-accepted}
+use Rattle.tasks.proofs.Listed.{read-accepted}
 use Rattle.tasks.proofs.RoundTrip.{read-valid}
-use Rattle.levels.specs.Verdict.{Answer, Reached, Misses}
-use Rattle.levels.specs.Verdict.Answer.{Unsafe, Safe, NoRoom}
+use Rattle.levels.specs.Verdict.{Reached, Misses}
+use Rattle.levels.specs.Verdict.Answer.{Safe}
 use Rattle.levels.proofs.Replay.{within-start, reached, reached-next, reached-calm}
 use Rattle.states.specs.Bytes.{stateIn}
 use Rattle.states.specs.System.{system}
@@ -33,8 +30,9 @@ use Rattle.states.proofs.MaskLaws.{legal-submask}
 use Rattle.states.proofs.SystemLaws.{step-missed, step-next, reached-proper}
 use Rattle.slots.specs.Layout.{Layout, columns, stateAt}
 use Rattle.slots.proofs.Bytes.{state-same}
-use Rattle.search.specs.Claim.{slotsIn, tableRefusal, sheetRefusal, Figures, verdictFigures, Searched, Search, TableSearch, SheetSearch}
-use Rattle.search.proofs.ClaimLaws.{slots-fit, sheet-fault}
+use Rattle.search.specs.Claim.{slotsIn, Figures, Searched, TableSearch, SheetSearch}
+use Rattle.search.proofs.ClaimLaws.{slots-fit}
+use Rattle.search.proofs.SafeLaws.{safe-search, table-passed, sheet-passed}
 use Rattle.closed.specs.Closed.{statesIn, Contains, Leads, Closed, fileRefusal, tableFileRefusal, sheetFileRefusal, Judged, TableJudged, SheetJudged}
 use Rattle.evidence.specs.Evidence.{fileOf, HasStates}
 
@@ -123,31 +121,6 @@ module _ {K : ℕ} {t : Table} (valid : tableFault t ≡ 0) {work work′ trace 
 
 -- ---- from the search's call to the checker's answer
 
--- the figures of kind 1 are those of Safe
-safe-figures : (a : Answer) {f : Figures} → f ≡ verdictFigures a → f .kind ≡ 1 → a ≡ Safe (f .N)
-safe-figures (Unsafe l n) e k = absurd (let z = ap (λ f. f .kind) e in omega arith)
-safe-figures (Safe n) e k = ap Safe (ap (λ f. f .N) (sym e))
-safe-figures (NoRoom n) e k = absurd (let z = ap (λ f. f .kind) e in omega arith)
-
--- a search that answers Safe was not refused
-safe-search :
-    {l : Layout} {K q : ℕ} {t : Table} {work work′ trace trace′ : List ℕ} {f : Figures} → Search l K q t work work′ trace trace′ f → f .kind ≡ 1
-    → (q ≡ 0) × Searched l K t work work′ trace trace′ (Safe (f .N))
-safe-search {l} {K} {q} x k =
-    elim (decLt 0 q) [
-      | yes h ↦ absurd (let z = ap (λ f. f .kind) (x .refused h .0) in omega arith)
-      | no h ↦
-          let y = x .found (omega arith) in
-          (omega arith, rw (safe-figures (y .answer) (y .is) k) at (y .searched))
-    ]
-
-table-valid : (t : Table) (K : ℕ) (trace : List ℕ) → tableRefusal t K trace ≡ 0 → tableFault t ≡ 0
-unfolding tableRefusal
-table-valid t K trace z =
-    by-bool (ltb 0 (tableFault t))
-    (λ e. absurd (omega (arith, ltb-true 0 (tableFault t) e, rw e at z)))
-    (λ e. omega (arith, ltb-false 0 (tableFault t) e))
-
 table-file : (t : Table) (file : List ℕ) → tableFault t ≡ 0 → fileRefusal file ≡ 0 → tableFileRefusal t file ≡ 0
 unfolding tableFileRefusal
 table-file t file valid whole = rw (valid, whole)
@@ -158,14 +131,8 @@ pub table-accepted :
     → (a : List ℕ) → TableJudged t (fileOf work′ (f .N)) a → a ≡ 1 ∷ []
 table-accepted t work work′ trace trace′ f x k a judged =
     let y = safe-search x k in
-    let valid = table-valid t (slotsIn work) trace (y .0) in
+    let valid = table-passed t (slotsIn work) trace (y .0) .0 in
     accepted valid (y .1) (slots-fit work) (table-file t (fileOf work′ (f .N)) valid) judged
-
--- a sheet that is not refused was read, and its table is valid
-sheet-read : (sheet : List ℕ) (K : ℕ) (trace : List ℕ) (a : Reading) → sheetOf sheet .answer ≡ a → sheetRefusal sheet K trace ≡ 0 → a ≡ Reading.Accepted
-sheet-read sheet K trace Reading.Accepted e z = refl
-sheet-read sheet K trace (Reading.Refused r) e z =
-    absurd (omega (arith, sheet-fault K trace sheet e, sheet-refusal sheet e .0))
 
 sheet-file : (sheet file : List ℕ) → sheetOf sheet .answer ≡ Reading.Accepted → fileRefusal file ≡ 0 → sheetFileRefusal sheet file ≡ 0
 unfolding sheetFileRefusal
@@ -178,6 +145,6 @@ pub sheet-accepted :
     → (a : List ℕ) → SheetJudged sheet (fileOf work′ (f .N)) a → a ≡ 1 ∷ []
 sheet-accepted sheet bytes work work′ trace trace′ f x k a judged =
     let y = safe-search x k in
-    let read : sheetOf sheet .answer ≡ Reading.Accepted = sheet-read sheet (slotsIn work) trace (sheetOf sheet .answer) refl (y .0) in
+    let read = sheet-passed sheet (slotsIn work) trace (y .0) .0 in
     let valid = read-valid sheet bytes (sheetOf sheet .table) (read-accepted (sheetOf sheet) read) in
     accepted valid (y .1) (slots-fit work) (sheet-file sheet (fileOf work′ (f .N)) read) judged

@@ -5,6 +5,7 @@ pub mod Explore
 pub mod Index
 pub mod Legal
 pub mod Numbered
+pub mod Parts
 pub mod Replay
 pub mod Shortest
 pub mod Slots

@@ -64,6 +64,11 @@ unfolding any
 none-any p zero f = refl
 none-any p (suc n) f = rw (none-any p n (λ k h. f k (omega arith)), f n (omega arith))
 
+pub any-same : (p q : ℕ → Bool) (n : ℕ) → ((k : ℕ) → k < n → p k ≡ q k) → any n p ≡ any n q
+unfolding any
+any-same p q zero f = refl
+any-same p q (suc n) f = rw (any-same p q n (λ k h. f k (omega arith)), f n (omega arith))
+
 -- where k passes, some number does
 pub some-any : (p : ℕ → Bool) (n k : ℕ) → k < n → p k ≡ true → any n p ≡ true
 unfolding any

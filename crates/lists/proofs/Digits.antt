@@ -1,11 +1,12 @@
 -- The bits of a number that is made of them. Assumes nothing.
-use Prim.Native.Nat.{ℕ, zero, suc, _+_, _-_, _*_, _/_, _%_, _^_, _<_}
+use Prim.Native.Nat.{ℕ, zero, suc, _+_, _-_, _*_, _/_, _%_, _^_, _≤_, _<_}
 use mathlib.Core.Path.{_≡_, refl, sym, ap, _∙_}
 use mathlib.Core.Bool.{Bool, true, false}
 use native.Mathlib.Omega.{arith}
+use native.Mathlib.Nat.{mod-lt, div-eq-of-lt, lt-of-lt-of-le}
 use native.Mathlib.Decide.{ℕ-discrete}
 use lib.Dec.{eqb}
-use lib.Pow.{high, low, field, mod-mod-pow}
+use lib.Pow.{pow-pos, pow-mono, high, low, field, mod-mod-pow}
 use Rattle.lists.specs.Lists.{pick, bitsOf}
 use Rattle.lists.proofs.Turns.{bits-less}
 
@@ -49,3 +50,24 @@ pub bits-same : (f g : ℕ → Bool) (n : ℕ) → ((i : ℕ) → i < n → f i 
 unfolding bitsOf
 bits-same f g zero h = refl
 bits-same f g (suc n) h = rw (bits-same f g n (λ i k. h i (omega arith)), h n (omega arith))
+
+-- ---- the lowest k bits of a number
+
+-- LAW: below k they are the number's
+pub low-digit : (x k i : ℕ) → i < k → x % 2 ^ k / 2 ^ i % 2 ≡ x / 2 ^ i % 2
+low-digit x k i h =
+    let j = k - (1 + i) in
+    let e : k ≡ j + (1 + i) = omega arith in
+    sym (field (x % 2 ^ k) 1 i)
+    ∙ ap (λ y. y / 2 ^ i) (ap (λ n. x % 2 ^ n % 2 ^ (1 + i)) e ∙ mod-mod-pow x j (1 + i))
+    ∙ field x 1 i
+
+-- LAW: from k on there is none
+pub high-digit : (x k i : ℕ) → k ≤ i → x % 2 ^ k / 2 ^ i % 2 ≡ 0
+high-digit x k i h = ap (λ y. y % 2) (div-eq-of-lt (lt-of-lt-of-le (mod-lt x (pow-pos k)) (pow-mono h)))
+
+-- LAW: those of the lowest k are the number's
+pub low-low : (x k j : ℕ) → j ≤ k → x % 2 ^ k % 2 ^ j ≡ x % 2 ^ j
+low-low x k j h =
+    let e : k ≡ k - j + j = omega arith in
+    ap (λ n. x % 2 ^ n % 2 ^ j) e ∙ mod-mod-pow x (k - j) j

@@ -4,14 +4,13 @@ use mathlib.Core.Path.{_≡_, refl, sym, _∙_}
 use mathlib.Core.Bool.{false}
 use lib.Dec.{ltb}
 use lib.ListN.{length}
-use native.Mathlib.Omega.{arith}
-use borrow.Author.Tests.{lt-ltb, ltb-true}
 use Rattle.lists.proofs.Bools.{by-bool}
 use Rattle.lists.proofs.Counts.{none-any}
 use Rattle.lists.proofs.Fill.{front-at}
 use Rattle.tasks.specs.Table.{faultAt, tableFault}
 use Rattle.tasks.specs.Sheet.{refusedWith, acceptedAs, sheetOf, sheetBytes}
 use Rattle.tasks.specs.declared.sheet.Reading.the-variants as Reading
+use Rattle.tasks.proofs.Answers.{unless-refused, unless-none, refused-unless, accepted-unless}
 use Rattle.tasks.proofs.Tables.{task-fits}
 use Rattle.tasks.proofs.Sheets.{sheet-short}
 use Rattle.tasks.proofs.RoundTrip.{Eight, write-read}
@@ -38,33 +37,22 @@ module _ (policy m n s : ℕ) where
   -- what the call answers, by what the judge says of the table
   pub practice-refused : {r : ℕ} → 0 < r → r ≡ tableFault (practiceTable policy m n s) → refusedWith r ≡ practiceOf policy m n s
   unfolding practiceOf
-  practice-refused {r} h e = let q : practiceRefusal policy m n ≡ r = sym (e ∙ practice-fault) in rw (q, lt-ltb 0 r h)
+  practice-refused {r} h e =
+      let q : practiceRefusal policy m n ≡ r = sym (e ∙ practice-fault) in
+      rw q (unless-refused (practiceTable policy m n s) h)
 
   pub practice-made : tableFault (practiceTable policy m n s) ≡ 0 → acceptedAs (practiceTable policy m n s) ≡ practiceOf policy m n s
   unfolding practiceOf
-  practice-made e = let q : practiceRefusal policy m n ≡ 0 = sym practice-fault ∙ e in rw q
+  practice-made e = unless-none (practiceTable policy m n s) (sym practice-fault ∙ e)
 
   -- and back: a refusal is that of the first three numbers, and a table that is made is the practice table
   pub answer-refused : {r : ℕ} → practiceOf policy m n s .answer ≡ Reading.Refused r → (0 < r) × (practiceRefusal policy m n ≡ r)
   unfolding practiceOf
-  answer-refused {r} e =
-      by-bool (ltb 0 (practiceRefusal policy m n))
-      (λ h.
-      let f : Reading.Refused (practiceRefusal policy m n) ≡ Reading.Refused r = rw h at e in
-      let q : practiceRefusal policy m n ≡ r = cc in
-      (omega (arith, ltb-true 0 (practiceRefusal policy m n) h), q))
-      (λ h.
-      let f : Reading.Accepted ≡ Reading.Refused r = rw h at e in
-      absurd (let z : _≡_ {A = ℕ} 0 1 = cc in omega arith))
+  answer-refused e = refused-unless (practiceRefusal policy m n) (practiceTable policy m n s) e
 
   pub answer-made : practiceOf policy m n s .answer ≡ Reading.Accepted → practiceOf policy m n s .table ≡ practiceTable policy m n s
   unfolding practiceOf
-  answer-made e =
-      by-bool (ltb 0 (practiceRefusal policy m n))
-      (λ h.
-      let f : Reading.Refused (practiceRefusal policy m n) ≡ Reading.Accepted = rw h at e in
-      absurd (let z : _≡_ {A = ℕ} 0 1 = cc in omega arith))
-      (λ h. rw h)
+  answer-made e = accepted-unless (practiceRefusal policy m n) (practiceTable policy m n s) e .1
 
   practice-eight : Eight (practiceTable policy m n s)
   unfolding practiceTable

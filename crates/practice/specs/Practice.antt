@@ -3,7 +3,7 @@ use Prim.Native.Nat.{ℕ, zero, suc, _+_, _*_, _%_}
 use lib.Dec.{ltb}
 use Rattle.lists.specs.Lists.{pick, front}
 use Rattle.tasks.specs.Table.{lastPolicy, outside}
-use Rattle.tasks.specs.Sheet.{refusedWith, acceptedAs}
+use Rattle.tasks.specs.Sheet.{unlessRefused}
 use Rattle.tasks.specs.declared.table.Table.{Table}
 use Rattle.tasks.specs.declared.sheet.Sheet.{Sheet}
 
@@ -52,5 +52,4 @@ practiceRefusal policy m n = pick (ltb lastPolicy policy) 4 (pick (outside m) 5 
 
 -- what the call answers: the refusal, or the table
 unfoldable pub practiceOf : ℕ → ℕ → ℕ → ℕ → Sheet
-practiceOf policy m n s =
-    pick (ltb 0 (practiceRefusal policy m n)) (refusedWith (practiceRefusal policy m n)) (acceptedAs (practiceTable policy m n s))
+practiceOf policy m n s = unlessRefused (practiceRefusal policy m n) (practiceTable policy m n s)

@@ -5,4 +5,5 @@ pub mod ServiceLaws
 pub mod SessionLaws
 pub mod TableLaws
 pub mod PracticeLaws
+pub mod CutLaws
 pub mod FileLaws

@@ -4,4 +4,5 @@ pub mod Services
 pub mod Sessions
 pub mod Tables
 pub mod Practices
+pub mod Cuts
 pub mod Files

@@ -1,5 +1,6 @@
-// The calls for C, thin over `tasks`, `service`, `practice`, `session_bytes`, `search` and `closed`: a sheet's verdict, its evidence, the replay of a list and its
-// totals, a sheet's table as bytes, practice sheets, and sessions.
+// The calls for C, thin over `tasks`, `service`, `practice`, `cut`, `session_bytes`, `search` and `closed`: a sheet's verdict, its evidence, the replay of a list and
+// its totals, a sheet's table as bytes, practice sheets, the sheets of cut tables, and sessions.
+mod cuts;
 mod files;
 mod practices;
 mod replays;
@@ -8,6 +9,7 @@ mod sessions;
 mod tables;
 mod verdicts;
 
+pub use cuts::ronchhek_cut;
 pub use files::ronchhek_closed;
 pub use practices::ronchhek_practice;
 pub use replays::ronchhek_replay;

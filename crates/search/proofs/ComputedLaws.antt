@@ -105,7 +105,8 @@ module _ (t : Table) (s : State) (m : ℕ) where
             ]
       ]
 
-branching : (t : Table) → FinitelyBranching (system t) sameStates (below (2 ^ t .n))
+-- LAW: the system of a table is finitely branching, so every N(d) exists
+pub branching : (t : Table) → FinitelyBranching (system t) sameStates (below (2 ^ t .n))
 branching t =
     record {
       equal = same-states;

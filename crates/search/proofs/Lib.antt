@@ -8,3 +8,4 @@ pub mod RunLaws
 pub mod ReportLaws
 pub mod ClaimLaws
 pub mod SameAnswers
+pub mod SafeLaws

@@ -18,6 +18,14 @@ use Rattle.lists.proofs.Picks.{pick-yes, pick-no}
 use Rattle.tasks.proofs.Tables.{pick-zero}
 use Rattle.tasks.proofs.Proper.{proper-after}
 
+-- a tick that neither refuses nor misses: what it is given, and what it leaves
+pub record Passed (t : Table) (s : State) (mask : ℕ) : Type 0 where
+  pub valid : tableFault t ≡ 0
+  pub proper : improper t s ≡ false
+  pub legal : illegal t s mask ≡ false
+  pub calm : missed t (after t s mask) ≡ false
+  pub state : ticked t s mask .state ≡ after t s mask
+
 module _ (t : Table) (s : State) (mask : ℕ) where
   -- a tick is refused with the state given
   pub ticked-refused : 0 < refusal t s mask → answered (Refused (refusal t s mask)) s ≡ ticked t s mask
@@ -87,9 +95,9 @@ module _ (t : Table) (s : State) (mask : ℕ) where
       let eleven : refusal t s mask ≡ 11 = refused-mask valid proper bad in
       sym (ticked-refused (omega arith)) ∙ ap (λ r. answered (Refused r) s) eleven
 
-  -- LAW: a tick that neither refuses nor misses leaves a proper state
-  pub ticked-proper : ticked t s mask .answer ≡ Next → improper t (ticked t s mask .state) ≡ false
-  ticked-proper e =
+  -- a tick that neither refuses nor misses was given a valid table, a proper state and a legal mask, and leaves the state after step 4
+  pub next-passed : ticked t s mask .answer ≡ Next → Passed t s mask
+  next-passed e =
       by-bool (ltb 0 (refusal t s mask))
       (λ h.
       let r = ticked-refused (ltb-true 0 (refusal t s mask) h) in
@@ -99,4 +107,8 @@ module _ (t : Table) (s : State) (mask : ℕ) where
       let ok = refusal-passed none in
       by-bool (missed t (after t s mask))
       (λ m. absurd (let z : _≡_ {A = ℕ} 0 1 = cc (ap (λ x. x .answer) (ticked-missed none m)) in omega arith))
-      (λ m. rw (sym (ticked-next none m)) (proper-after t s mask (ok .1) (ok .2) m)))
+      (λ m. record { valid = ok .0; proper = ok .1; legal = ok .2; calm = m; state = ap (λ x. x .state) (sym (ticked-next none m)) }))
+
+  -- LAW: a tick that neither refuses nor misses leaves a proper state
+  pub ticked-proper : ticked t s mask .answer ≡ Next → improper t (ticked t s mask .state) ≡ false
+  ticked-proper e = let f = next-passed e in rw (f .state) (proper-after t s mask (f .proper) (f .legal) (f .calm))

@@ -1,9 +1,14 @@
 -- An answer is what its figures say: no two answers have the same. Assumes nothing.
-use Prim.Native.Nat.{ℕ}
+use Prim.Native.Nat.{ℕ, _<_}
 use mathlib.Core.Path.{_≡_, refl, sym, ap, ap₂}
 use mathlib.Core.List.{List, _∷_}
 use native.Mathlib.Omega.{arith}
+use lib.Dec.{ltb}
 use lib.ListN.{getD}
+use borrow.Author.Tests.{lt-ltb, ltb-true, ltb-false}
+use Rattle.lists.proofs.Bools.{by-bool}
+use Rattle.lists.proofs.Picks.{pick-yes}
+use Rattle.tasks.specs.Sheet.{refusedWith, acceptedAs, unlessRefused}
 use Rattle.tasks.specs.Answers.{numberAnswer, readingAnswer, sheetAnswer, writingAnswer, tickFigures, tickAnswer, replayFigures, replayAnswer}
 use Rattle.tasks.specs.declared.table.Table.{Table}
 use Rattle.tasks.specs.declared.number.Number.{Number}
@@ -65,6 +70,37 @@ sheet-is {a} {b} e = ap₂ (λ x t. record { answer = x; table = t }) (reading-i
 -- the answer alone, from the promise of a reading to its definition
 pub sheet-reading : {a b : Sheet} → (sheetAnswer a ≡ sheetAnswer b) × (a .table ≡ b .table) → b .answer ≡ a .answer
 sheet-reading e = ap (λ (x : Sheet). x .answer) (sym (sheet-is e))
+
+-- a table unless it is refused, from the refusal to the answer
+pub unless-refused : {r : ℕ} (t : Table) → 0 < r → refusedWith r ≡ unlessRefused r t
+unfolding unlessRefused
+unless-refused {r} t h = pick-yes (acceptedAs t) (lt-ltb 0 r h)
+
+pub unless-none : {r : ℕ} (t : Table) → r ≡ 0 → acceptedAs t ≡ unlessRefused r t
+unfolding unlessRefused
+unless-none t e = rw e
+
+-- and back
+pub refused-unless : {r : ℕ} (q : ℕ) (t : Table) → unlessRefused q t .answer ≡ Reading.Refused r → (0 < r) × (q ≡ r)
+unfolding unlessRefused
+refused-unless {r} q t e =
+    by-bool (ltb 0 q)
+    (λ h.
+    let f : Reading.Refused q ≡ Reading.Refused r = rw h at e in
+    let same : q ≡ r = cc in
+    (omega (arith, ltb-true 0 q h), same))
+    (λ h.
+    let f : Reading.Accepted ≡ Reading.Refused r = rw h at e in
+    absurd (let z : _≡_ {A = ℕ} 0 1 = cc in omega arith))
+
+pub accepted-unless : (q : ℕ) (t : Table) → unlessRefused q t .answer ≡ Reading.Accepted → (q ≡ 0) × (unlessRefused q t .table ≡ t)
+unfolding unlessRefused
+accepted-unless q t e =
+    by-bool (ltb 0 q)
+    (λ h.
+    let f : Reading.Refused q ≡ Reading.Accepted = rw h at e in
+    absurd (let z : _≡_ {A = ℕ} 0 1 = cc in omega arith))
+    (λ h. (omega (arith, ltb-false 0 q h), rw h))
 
 pub sheet-told : {a b : Sheet} → a ≡ b → (sheetAnswer a ≡ sheetAnswer b) × (a .table ≡ b .table)
 sheet-told e = (ap sheetAnswer e, ap (λ (x : Sheet). x .table) e)

@@ -25,7 +25,7 @@ abbrev pub kept : State → Replayed
 kept s = record { answer = Played Kept; state = s }
 
 -- where a tick goes on to a kept list it answered with the next state, and what follows from the rest follows
-next-kept :
+pub next-kept :
     {X : Type 0} (k : ℕ) (s s₁ s′ : State) (rest : Replayed) (a : TickAnswer) → playNext k s s₁ rest a ≡ kept s′
     → (a ≡ Tick.Next → rest ≡ kept s′ → X) → X
 next-kept k s s₁ s′ rest Tick.Next e f = f refl e
@@ -46,7 +46,8 @@ module _ (t : Table) where
       ∙ played-joined s₁ (k + 1) masks l′ s′ rest
       ∙ ap (λ n. played t s′ n l′) (omega arith))
 
-  played-proper : (s : State) (k : ℕ) (l : List ℕ) (s′ : State) → improper t s ≡ false → played t s k l ≡ kept s′ → improper t s′ ≡ false
+  -- LAW: a list that is kept from a proper state ends in one
+  pub played-proper : (s : State) (k : ℕ) (l : List ℕ) (s′ : State) → improper t s ≡ false → played t s k l ≡ kept s′ → improper t s′ ≡ false
   unfolding played
   played-proper s k [] s′ proper e = ap (λ r. improper t (r .state)) (sym e) ∙ proper
   played-proper s k (mask ∷ masks) s′ proper e =

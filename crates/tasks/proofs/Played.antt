@@ -14,7 +14,7 @@ use Rattle.tasks.specs.Table.{tableFault}
 use Rattle.tasks.specs.State.{start, improper}
 use Rattle.tasks.specs.Tick.{illegal, released, chosen, ran, after, missed, answered, ticked}
 use Rattle.tasks.specs.Answers.{replayAnswer}
-use Rattle.tasks.specs.Replay.{playNext, played, replayed, outcomeTick, replayTick}
+use Rattle.tasks.specs.Replay.{playNext, played, replayed, playedFrom, outcomeTick, replayTick}
 use Rattle.tasks.specs.declared.state.State.{State}
 use Rattle.tasks.specs.declared.table.Table.{Table}
 use Rattle.tasks.specs.declared.tick.TickAnswer.{TickAnswer}
@@ -86,25 +86,57 @@ module _ (t : Table) where
       next-tick (k + 1) (k + length (mask ∷ masks)) s s′ (played t s′ (k + 1) masks) (ticked t s mask .answer) (omega arith)
       (omega (arith, played-tick s′ (k + 1) masks))
 
+  -- ---- a list played on from any state, by what is judged first
+
+  pub from-fault : (s : State) (k : ℕ) (l : List ℕ) → 0 < tableFault t → record { answer = Refused (tableFault t) 0; state = s } ≡ playedFrom t s k l
+  unfolding playedFrom
+  from-fault s k l h = pick-yes _ (lt-ltb _ _ h)
+
+  pub from-improper :
+      (s : State) (k : ℕ) (l : List ℕ) → tableFault t ≡ 0 → improper t s ≡ true → record { answer = Refused 13 0; state = s } ≡ playedFrom t s k l
+  unfolding playedFrom
+  from-improper s k l valid bad = rw (valid, bad)
+
+  pub from-played : (s : State) (k : ℕ) (l : List ℕ) → tableFault t ≡ 0 → improper t s ≡ false → played t s k l ≡ playedFrom t s k l
+  unfolding playedFrom
+  from-played s k l valid proper = rw (valid, proper)
+
+  -- LAW: the tick that such a play names is at most the list's last
+  pub from-tick : (s : State) (k : ℕ) (l : List ℕ) → replayTick (playedFrom t s k l .answer) ≤ k + length l
+  unfolding playedFrom replayTick
+  from-tick s k l =
+      by-bool (ltb 0 (tableFault t))
+      (λ e. rw e (omega arith))
+      (λ e. rw e (by-bool (improper t s) (λ b. rw b (omega arith)) (λ b. rw b (played-tick s k l))))
+
+  pub from-names :
+      (s : State) (l : List ℕ) {r : Replayed} → r ≡ playedFrom t s 0 l
+      → (replayAnswer r ≡ replayAnswer (playedFrom t s 0 l)) × (r .state ≡ playedFrom t s 0 l .state) × (replayTick (r .answer) ≤ length l)
+  from-names s l e = (replay-told e .0, replay-told e .1, rw e (omega (arith, from-tick s 0 l)))
+
+  -- ---- the replay
+
+  -- LAW: a replay is played on from the start state, with no tick before
+  pub replayed-from : (l : List ℕ) → playedFrom t start 0 l ≡ replayed t l
+  unfolding playedFrom replayed
+  replayed-from l = rw (start-proper t)
+
   -- LAW: the tick that a replay names is at most the list's length
   pub replayed-tick : (l : List ℕ) → replayTick (replayed t l .answer) ≤ length l
-  unfolding replayed replayTick
-  replayed-tick l =
-      by-bool (ltb 0 (tableFault t)) (λ e. rw e (omega arith)) (λ e. rw e (omega (arith, played-tick start 0 l)))
-
-  -- a bad table is refused with the start state, and with a valid one the list is played
-  pub replayed-refused : (l : List ℕ) → 0 < tableFault t → record { answer = Refused (tableFault t) 0; state = start } ≡ replayed t l
-  unfolding replayed
-  replayed-refused l h = pick-yes _ (lt-ltb _ _ h)
-
-  pub replayed-played : (l : List ℕ) → tableFault t ≤ 0 → played t start 0 l ≡ replayed t l
-  unfolding replayed
-  replayed-played l h = pick-no _ (le-ltb _ _ h) refl
+  replayed-tick l = rw (sym (replayed-from l)) (omega (arith, from-tick start 0 l))
 
   pub replay-names :
       (l : List ℕ) {r : Replayed} → r ≡ replayed t l
       → (replayAnswer r ≡ replayAnswer (replayed t l)) × (r .state ≡ replayed t l .state) × (replayTick (r .answer) ≤ length l)
   replay-names l e = (replay-told e .0, replay-told e .1, rw e (replayed-tick l))
+
+  -- a bad table is refused with the start state, and with a valid one the list is played
+  pub replayed-refused : (l : List ℕ) → 0 < tableFault t → record { answer = Refused (tableFault t) 0; state = start } ≡ replayed t l
+  replayed-refused l h = from-fault start 0 l h ∙ replayed-from l
+
+  pub replayed-played : (l : List ℕ) → tableFault t ≤ 0 → played t start 0 l ≡ replayed t l
+  unfolding replayed
+  replayed-played l h = pick-no _ (le-ltb _ _ h) refl
 
   -- ---- the refusals of a play
 

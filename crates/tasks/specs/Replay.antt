@@ -4,7 +4,7 @@ use mathlib.Core.List.{List, [], _∷_}
 use lib.Dec.{ltb}
 use Rattle.lists.specs.Lists.{pick}
 use Rattle.tasks.specs.Table.{tableFault}
-use Rattle.tasks.specs.State.{start}
+use Rattle.tasks.specs.State.{start, improper}
 use Rattle.tasks.specs.Tick.{ticked}
 use Rattle.tasks.specs.declared.state.State.{State}
 use Rattle.tasks.specs.declared.table.Table.{Table}
@@ -32,6 +32,13 @@ played t s k (mask ∷ masks) =
 unfoldable pub replayed : Table → List ℕ → Replayed
 replayed t masks =
     pick (ltb 0 (tableFault t)) (record { answer = Refused (tableFault t) 0; state = start }) (played t start 0 masks)
+
+-- the masks played on from any state (document 02, §9), after k ticks: refused before the first tick with 4 to 7 for the table, then 13 for the state
+unfoldable pub playedFrom : Table → State → ℕ → List ℕ → Replayed
+playedFrom t s k masks =
+    pick (ltb 0 (tableFault t)) (record { answer = Refused (tableFault t) 0; state = s })
+    (pick (improper t s) (record { answer = Refused 13 0; state = s })
+    (played t s k masks))
 
 -- ---- the tick that an answer names
 

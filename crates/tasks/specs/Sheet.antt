@@ -37,6 +37,10 @@ refusedWith r = record { answer = Reading.Refused r; table = emptyTable 0 0 0 }
 abbrev pub acceptedAs : Table → Sheet
 acceptedAs t = record { answer = Reading.Accepted; table = t }
 
+-- the refusal r, or the table where r is 0
+unfoldable pub unlessRefused : ℕ → Table → Sheet
+unlessRefused r t = pick (ltb 0 r) (refusedWith r) (acceptedAs t)
+
 -- ---- the numbers before the tasks
 
 -- a number's own rule: from low to high, else refusal r

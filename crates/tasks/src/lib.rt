@@ -21,6 +21,7 @@ pub use number::read_number;
 pub use play::Outcome;
 pub use play::ReplayAnswer;
 pub use play::Replayed;
+pub use play::play_on;
 pub use play::replay;
 pub use sheet::Reading;
 pub use sheet::Sheet;

@@ -1,10 +1,11 @@
-// The replay of a release list, one mask a tick, from the start state.
+// The replay of a release list, one mask a tick, from the start state, and the play of a list from any state.
 ghost use mathlib.Core.Path.{_≡_};
 ghost use Prim.Native.Nat.{_≤_};
 ghost use Rattle.tasks.specs.Table.{tableFault};
-ghost use Rattle.tasks.specs.State.{start};
+ghost use mathlib.Core.Bool.{false};
+ghost use Rattle.tasks.specs.State.{improper};
 ghost use Rattle.tasks.specs.Answers.{replayAnswer};
-ghost use Rattle.tasks.specs.Replay.{played, replayed, replayTick};
+ghost use Rattle.tasks.specs.Replay.{played, replayed, playedFrom, replayTick};
 use crate::state::State;
 use crate::table::Table;
 
@@ -26,13 +27,13 @@ pub struct Replayed {
     pub state: State,
 }
 
-// The masks of a valid table played from the start state, up to the first miss or refusal; later masks are not read. Every state on the way is proper, so of a
+// The masks of a valid table played from a proper state, up to the first miss or refusal; later masks are not read. Every state on the way is proper, so of a
 // tick's refusals only that of the mask is asked for.
-fn play(t: Table, masks: &[u8]) -> Replayed
-    requires { ⌜ tableFault t ≡ 0 ⌝ }
-    ensures { λ r. ⌜ r ≡ played t start 0 (now (masks .entry)) ⌝ }
+fn play(t: Table, first: State, masks: &[u8]) -> Replayed
+    requires { ⌜ (tableFault t ≡ 0) × (improper t first ≡ false) ⌝ }
+    ensures { λ r. ⌜ r ≡ played t first 0 (now (masks .entry)) ⌝ }
 {
-    let mut s = State::start();
+    let mut s = first;
     let mut i: usize = 0;
     while i < masks.len() {
         let mask = masks[i];
@@ -60,17 +61,30 @@ fn play(t: Table, masks: &[u8]) -> Replayed
     }
 }
 
-// The replay of a list, for any table: a bad table is refused before the first tick, with the start state.
-pub fn replay(t: Table, masks: &[u8]) -> Replayed
-    ensures { λ r. do ⌜ (replayAnswer r ≡ replayAnswer (replayed t (now (masks .entry)))) × (r .state ≡ replayed t (now (masks .entry)) .state) × (replayTick (r .answer) ≤ (← ⟦masks.len()⟧ .entry)) ⌝ }
+// A list played on from a state, for any table and state: 4 to 7 and then 13 are refused before the first tick, with the state given. The first tick is 1.
+pub fn play_on(t: Table, s: State, masks: &[u8]) -> Replayed
+    ensures { λ r. do ⌜ (replayAnswer r ≡ replayAnswer (playedFrom t s 0 (now (masks .entry)))) × (r .state ≡ playedFrom t s 0 (now (masks .entry)) .state) × (replayTick (r .answer) ≤ (← ⟦masks.len()⟧ .entry)) ⌝ }
 {
     let fault = t.fault();
     if 0 < fault {
-        let s = State::start();
         return Replayed {
             answer: ReplayAnswer::Refused(fault, 0),
             state: s,
         };
     }
-    play(t, masks)
+    if s.improper(t) {
+        return Replayed {
+            answer: ReplayAnswer::Refused(13, 0),
+            state: s,
+        };
+    }
+    play(t, s, masks)
+}
+
+// The replay of a list, for any table: a bad table is refused before the first tick, with the start state.
+pub fn replay(t: Table, masks: &[u8]) -> Replayed
+    ensures { λ r. do ⌜ (replayAnswer r ≡ replayAnswer (replayed t (now (masks .entry)))) × (r .state ≡ replayed t (now (masks .entry)) .state) × (replayTick (r .answer) ≤ (← ⟦masks.len()⟧ .entry)) ⌝ }
+{
+    let start = State::start();
+    play_on(t, start, masks)
 }

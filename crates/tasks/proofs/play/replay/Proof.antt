@@ -1,31 +1,25 @@
-use mathlib.Core.Path.{_∙_}
-use Rattle.tasks.proofs.Played.{replay-names, replayed-refused, replayed-played}
-use native.Mathlib.Omega.{arith}
+-- From the start state, with no tick before. Assumes nothing.
+use mathlib.Core.Path.{_≡_, ap, _∙_}
+use Rattle.tasks.specs.State.{start}
+use Rattle.tasks.specs.Replay.{playedFrom}
+use Rattle.tasks.proofs.Answers.{replay-is}
+use Rattle.tasks.proofs.Played.{replay-names, replayed-from}
 use borrow.Author.Needs.{needs}
 use Rattle.tasks.proofs.play.replay.Statement.{statement}
 use Rattle.tasks.proofs.play.replay.Tie as tie
 
-fault-requires : tie.Need-fault-requires
-fault-requires c κs = search needs
-
 start-requires : tie.Need-start-requires
 start-requires c κs = search needs
 
+play-on-requires : tie.Need-play-on-requires
+play-on-requires c κs = search needs
+
 returns : tie.Need-returns
 returns c =
-    let a = c .before .before .before .before .args in
-    let e = c .before .before .fault .ensures in
+    let a = c .before .before .before .args in
+    let e = c .play-on .ensures in
     replay-names (a .t) (a .masks .now)
-    (rw (e, c .start .ensures) (replayed-refused (a .t) (a .masks .now) (rw e at (c .before .if1 .taken))))
-
-play-requires : tie.Need-play-requires
-play-requires c κs = omega (arith, rw (c .before .fault .ensures) at (c .if1 .left))
-
-returns-2 : tie.Need-returns-2
-returns-2 c =
-    let a = c .before .before .before .before .args in
-    replay-names (a .t) (a .masks .now)
-    (c .play .ensures ∙ replayed-played (a .t) (a .masks .now) (rw (c .before .before .fault .ensures) at (c .before .if1 .left)))
+    (replay-is (e .0, e .1) ∙ ap (λ s. playedFrom (a .t) s 0 (a .masks .now)) (c .before .start .ensures) ∙ replayed-from (a .t) (a .masks .now))
 
 pub replay-spec : {M : Type 1} → statement M
-replay-spec = tie.close (tie.spec fault-requires start-requires returns play-requires returns-2)
+replay-spec = tie.close (tie.spec start-requires play-on-requires returns)

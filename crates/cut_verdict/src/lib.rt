@@ -1,0 +1,1 @@
+// The verdict on a cut table: a Safe table's cut is Safe. Theorems in proofs/.
