@@ -1,5 +1,6 @@
 /* Ronchhek: verdicts on real-time task tables, evidence of Safe, the replay of release lists and where its core time went, task
- * sheets read and written, practice sheets drawn from a number, and sessions that step through a replay and return to a point.
+ * sheets read and written, practice sheets drawn from a number, sheets cut to their first tasks, and sessions that step through a
+ * replay and return to a point.
  *
  * Link with libronchhek.a (`rt staticlib ronchhek` writes it to target/staticlib/). The calls take any bytes and any lengths
  * and always return. They read and write nothing but the bytes they are lent, take nothing from the heap, make no system
@@ -93,7 +94,7 @@ extern "C" {
  *    3  the field count is not 3
  *    4  the policy is above 4
  *    5  the processors are not 1 to 8
- *    6  the tasks are not 1 to 8
+ *    6  the tasks are not 1 to 8; ronchhek_cut: or k is not 1 to n (judged after 8)
  *    7  a task breaks 1 <= C <= D <= P <= 200; ronchhek_write: or an entry after the last task is not 0
  *    8  bytes after the last task; ronchhek_write: the table is longer than 27 bytes (judged right after 1)
  *    9  the work space has no slot                                 (ronchhek_verdict)
@@ -104,7 +105,7 @@ extern "C" {
  *   12  the space for the outcome is too short: 16 bytes of state  (ronchhek_replay),
  *       192 bytes of totals                                        (ronchhek_service),
  *       27 bytes of table                                          (ronchhek_read),
- *       the sheet's length                                         (ronchhek_write and ronchhek_practice),
+ *       the sheet's length                                         (ronchhek_write, ronchhek_practice and ronchhek_cut),
  *       145 bytes of session                                       (the three calls on sessions)
  *   13  a state of the session is not proper, present or marked    (the three calls on sessions)
  *   14  the file is empty or not a whole number of states          (ronchhek_closed)
@@ -276,6 +277,26 @@ uint64_t ronchhek_write(const uint8_t *table, size_t table_len,
  */
 uint64_t ronchhek_practice(uint8_t policy, uint8_t m, uint8_t n, uint16_t seed,
                            uint8_t *out, size_t out_len);
+
+/* The cut of a sheet to k: the sheet of its first k tasks, k from 1 to n, with the same policy and m. Of examples/two-tasks.sheet and
+ * k = 1 it is 03 00 01 01 01 01 02; with k = n it is the sheet itself.
+ *
+ * Returns kind * 2^48 + N, as ronchhek_write does:
+ *
+ *   kind 1, done     the cut's N bytes (7 to 52, and no more than the sheet has) stand at the front of out; later bytes stay.
+ *   kind 0, refused  N is the refusal number, and every byte stays: 1 to 8 of the sheet, then 6 where k is not 1 to n, then 12.
+ *                    Where ronchhek_read takes the sheet, 6 is about k.
+ *
+ * A state is cut to the c and p of its first k tasks, with 0 after them, a mask to its low k bits (mask mod 2^k), and a list mask by
+ * mask. Cutting to k and then to j <= k is cutting to j, for each of them.
+ *
+ * Under P-GFP cuts agree with play, since no task waits for one after it: where ronchhek_replay keeps a list, it keeps the cut list
+ * with the cut sheet, and the state is the cut of the state. So where ronchhek_verdict answers Safe with N states, it answers Safe for
+ * the cut in as many slots, with N states or fewer. Under the other policies a task may wait for one after it: a list that is kept
+ * may, when it is cut, be kept with another state, or miss.
+ */
+uint64_t ronchhek_cut(const uint8_t *sheet, size_t sheet_len, uint8_t k,
+                      uint8_t *out, size_t out_len);
 
 /* A session: whoever looks into a replay steps through it tick by tick, sets marks, and returns to them.
  *

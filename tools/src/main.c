@@ -48,6 +48,12 @@ static const struct command {
      "    Writes the sheet of a practice table, drawn from a number, so that anyone can make it again: a policy as in `make`, M\n"
      "    processors, N tasks and a seed from 0 to 65535. The bytes go where those of `make` go, and so do refusals.\n",
      practice},
+    {"cut", "SHEET K [-o FILE]",
+     "    Writes the sheet of a sheet's first K tasks, with the same policy and processors; K is 1 to the sheet's number of tasks,\n"
+     "    and any other number up to 255 is refused with 6. Under p-gfp a release list that is kept stays kept when the sheet is cut\n"
+     "    to K tasks and every mask to its low K bits, and the cut of a safe sheet is safe. The bytes go where those of `make` go, and\n"
+     "    so do refusals.\n",
+     cut},
 };
 enum { COMMANDS = sizeof commands / sizeof *commands };
 

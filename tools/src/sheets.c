@@ -1,4 +1,4 @@
-/* What the subcommands that write a sheet share: make and practice. */
+/* What the subcommands that write a sheet share: make, practice and cut. */
 #define _POSIX_C_SOURCE 200809L
 #include "tool.h"
 

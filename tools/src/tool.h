@@ -22,6 +22,7 @@ bool session(struct args *args);
 bool show(struct args *args);
 bool make(struct args *args);
 bool practice(struct args *args);
+bool cut(struct args *args);
 
 /* Says on standard error what is wrong; the status at the end is 2 then. */
 void complain(const char *format, ...) __attribute__((format(printf, 1, 2)));
