@@ -35,6 +35,14 @@ kind #, whose line is the vector's label. The kinds:
                                 in hexadecimal; then the session in hexadecimal
     y  a sheet, a space, calls  calls, and for each the number that the call for C programs returns; then the whole
                                 space in hexadecimal
+    a  a table, k               cut as sheet: the table cut to k
+    b  k, a state, masks        cuts, the state cut to k, and the cut list in hexadecimal
+    g  a sheet, k, a length     cut sheet, the number that the call for C programs returns, and the whole output in
+                                hexadecimal
+    h  a table, k, masks        whole, as replay of the list; then part, as replay of the cut list in the cut table, or
+                                part refused R where the cut is refused
+    j  a table, a state, a      after as replay: the list played from the state, with a number of ticks before in 4
+       number, masks            bytes, low byte first
 
 A table is 27 bytes: policy, m, n, eight C, eight D, eight P. A state is 16 bytes: c and p of each of
 eight tasks, printed in that order. An output is filled with (i * 37 + 11) mod 256 at place i before
@@ -59,7 +67,8 @@ A file is states of 16 bytes each, or other bytes, up to the body's end; before 
 sheet after its length in a byte.
 
 A sheet, a length and masks are the sheet's length in a byte, the sheet, the length of the totals space in a
-byte, and the masks up to the body's end. The totals space is filled as the writer's output.
+byte, and the masks up to the body's end. The totals space is filled as the writer's output, and so is that of a cut
+sheet: the sheet's length in a byte, the sheet, k in a byte, and the length of the output in a byte.
 
 A session is 145 bytes: a byte whose bit i - 1 is set where mark i is, the present state, and the state under each of
 eight marks, also under those that are not set, whose bytes stay. A sheet and a space are the sheet's length in a byte,
@@ -80,7 +89,7 @@ import reference as ref
 from reference import START, Call, Session, State, Table, number_bytes, sheet_bytes, table_of
 
 # The kinds whose vectors are made.
-KINDS = "nstwrdmkpvqlecfuzxy"
+KINDS = "nstwrdmkpvqlecfuzxyabghj"
 
 FOLDER = Path(__file__).resolve().parent.parent / "crates" / "vectors"
 LONGEST_BODY = 4096  # what the program has room for
@@ -364,6 +373,40 @@ def session_call_vector(label: str, sheet: bytes, space: bytes, calls: list[Call
     return Vector("y", label, body, f"{line} {space.hex() or 'empty'}")
 
 
+LONGEST_CUT = 256  # masks that the program has room for when it cuts a list
+
+
+def cut_vector(label: str, table: Table, k: int) -> Vector:
+    return Vector("a", label, table_bytes(table) + bytes([k]), "cut " + table_line(ref.cut_table, table, k))
+
+
+def cuts_vector(label: str, k: int, state: State, masks: bytes) -> Vector:
+    assert len(masks) <= LONGEST_CUT, label
+    line = f"cuts {numbers(ref.state_bytes(ref.cut_state(state, k)))} {ref.cut_list(masks, k).hex() or 'empty'}"
+    return Vector("b", label, bytes([k]) + ref.state_bytes(state) + masks, line)
+
+
+def cut_sheet_vector(label: str, sheet: bytes, k: int, length: int) -> Vector:
+    number, output = ref.cut_call(sheet, k, filled(length, 11, 37))
+    body = bytes([len(sheet)]) + sheet + bytes([k, length])
+    return Vector("g", label, body, f"cut sheet {number} {output.hex() or 'empty'}")
+
+
+def part_vector(label: str, table: Table, k: int, masks: bytes) -> Vector:
+    assert len(masks) <= LONGEST_CUT, label
+    try:
+        part = outcome(ref.cut_replay(table, k, masks))
+    except ref.Refused as refused:
+        part = f"refused {refused.number}"
+    line = f"whole {outcome(ref.replay(table, masks))} part {part}"
+    return Vector("h", label, table_bytes(table) + bytes([k]) + masks, line)
+
+
+def after_vector(label: str, table: Table, state: State, before: int, masks: bytes) -> Vector:
+    body = table_bytes(table) + ref.state_bytes(state) + before.to_bytes(4, "little") + masks
+    return Vector("j", label, body, f"after {outcome(ref.play_after(table, state, before, masks))}")
+
+
 # ----------------------------------------------------------------------
 # Sheet numbers, sheets, tables, the writer
 
@@ -534,6 +577,21 @@ def table_vectors() -> Iterator[Vector]:
     yield table_vector("order: m, n and tasks wrong", Table(3, 9, 9, (1,) * 8, (0,) * 8, (0,) * 8))
     yield table_vector("order: n and tasks wrong", Table(3, 8, 9, (1,) * 8, (0,) * 8, (0,) * 8))
     yield table_vector("order: n 0 and no tasks", Table(0, 1, 0, (0,) * 8, (0,) * 8, (0,) * 8))
+
+
+def refused_tables() -> tuple[tuple[str, Table], ...]:
+    """Tables with each of 4 to 7, made of one with two tasks."""
+    two = table_of(0, 1, TWO)
+    return (
+        ("policy 5", changed(two, policy=5)),
+        ("m 0", changed(two, m=0)),
+        ("m 9", changed(two, m=9)),
+        ("n 0", changed(two, n=0)),
+        ("n 9", changed(two, n=9)),
+        ("C above D", changed(two, C=entry(two.C, 1, 3))),
+        ("an entry after the nth", changed(two, P=entry(two.P, 7, 1))),
+        ("all wrong", Table(5, 0, 0, (1,) * 8, (0,) * 8, (0,) * 8)),
+    )
 
 
 def write_vectors() -> Iterator[Vector]:
@@ -866,9 +924,9 @@ def tick_vectors() -> Iterator[Vector]:
         yield tick_vector(f"drawn {number + 1} of equal jobs", *dice.tied_jobs(), 0)
 
 
-def drawn_masks(dice: Dice, table: Table, length: int) -> bytes:
+def drawn_masks(dice: Dice, table: Table, length: int, state: State = START) -> bytes:
     """Masks that are legal one after the other, up to a miss, with a stray one now and then."""
-    masks, state = [], START
+    masks = []
     for _ in range(length):
         mask = dice.below(256) if dice.below(40) == 0 else dice.legal_mask(table, state)
         masks.append(mask)
@@ -1259,8 +1317,29 @@ def aged_searches() -> Iterator[Search]:
         yield from (search, search.with_slots(found.N - 1))
 
 
+# Tables that are Safe under P-GFP: the cores, the tasks, and how many states each cut has, the whole last.
+SAFE_CUTS = [
+    (1, [(1, 2, 2), (1, 4, 4), (1, 8, 8)], [2, 8, 70]),
+    (2, [(2, 3, 3), (1, 2, 2), (2, 4, 4)], [3, 6, 27]),
+    (2, [(1, 2, 3), (2, 3, 3), (2, 4, 4), (1, 4, 4)], [3, 9, 37, 151]),
+    (5, [(1, 1, 1)] * 2 + [(1, 1, 2)] * 2 + [(1, 2, 2)] * 3 + [(1, 3, 3)], [1, 1, 2, 4, 8, 17, 39, 132]),
+]
+
+
+def cut_searches() -> Iterator[Search]:
+    """Document 02, §9: under P-GFP a table's cut is Safe where it is, for the same number of slots, with no more states."""
+    for m, tasks, counts in SAFE_CUTS:
+        table, label = table_of(ref.P_GFP, m, tasks), f"P-GFP {tasks} on {m}"
+        K = ref.verdict(table, ref.MOST_SLOTS).N
+        cuts = [ref.cut_table(table, k) for k in range(1, len(tasks) + 1)]
+        assert [ref.verdict(cut, K) for cut in cuts] == [("safe", 0, count) for count in counts], label
+        assert counts[-1] == K == max(counts), label
+        for cut in cuts:
+            yield Search(f"{label}, cut to {cut.n}", sheet_bytes(cut)).with_slots(K)
+
+
 def search_vectors() -> Iterator[Vector]:
-    by_table = (policy_searches, miss_searches, parted_searches, aged_searches)
+    by_table = (policy_searches, miss_searches, parted_searches, aged_searches, cut_searches)
     for searches in (benchmark_searches, space_searches, rest_searches, refused_searches, *by_table):
         yield from (search_vector(*search) for search in searches())
     # few of them, since the program compares the state of each slot with that of each earlier one
@@ -1802,6 +1881,15 @@ BLANK = bytes(ref.SESSION)  # a fresh session
 # Four tasks on two cores that miss under each policy, most of whose lists do after a few ticks.
 STRAINED = [(1, 1, 2), (2, 3, 4), (2, 2, 3), (3, 5, 6)]
 
+# Three tasks, and for them states that are improper by causes other than a late job.
+THREE = [(2, 9, 9), (4, 9, 9), (4, 9, 9)]
+IMPROPER = {
+    "c above C": state_of((3, 9)),
+    "p above P": state_of((0, 10)),
+    "c after the nth": state_of((0, 0), (0, 0), (0, 0), (1, 0)),
+    "p after the nth": state_of(*[(0, 0)] * 7, (0, 1)),
+}
+
 # From a fresh session: every refusal of a mark, both causes of 11, and each call done.
 EACH_CALL = [Call(name, given) for name in ("return", *CALLS) for given in (255, 0, 1, 1, 8, 9)]
 
@@ -1901,7 +1989,7 @@ def with_states(flags: int, states: list[State], others: bytes = BLANK) -> bytes
 
 def improper_walks() -> Iterator[Walk]:
     """13, for the present state and for each mark, by each cause; before 11, 15 and 16."""
-    three, late = table_of(1, 2, [(2, 9, 9), (4, 9, 9), (4, 9, 9)]), state_of((2, 1))
+    three, late = table_of(1, 2, THREE), state_of((2, 1))
     proper = [state_of((2, 9), (4 - i % 4, 9 - i % 2)) for i in range(9)]
     for place, name in enumerate(("the present state", *(f"mark {i}" for i in range(1, 9)))):
         states = proper[:place] + [late] + proper[place + 1 :]
@@ -1910,8 +1998,7 @@ def improper_walks() -> Iterator[Walk]:
     yield Walk("13: mark 8, no other set", three, with_states(128, [START] + [late] * 8), EACH_CALL)
     unset = b"\x55" + with_states(0xAA, [START] + [late] * 8)[1:]
     yield Walk("states that are not proper under marks that are not set", three, unset, EACH_CALL)
-    causes = (state_of((3, 9)), state_of((0, 10)), state_of((0, 0), (0, 0), (0, 0), (1, 0)), state_of(*[(0, 0)] * 7, (0, 1)))
-    for place, (cause, wrong) in enumerate(zip(("c above C", "p above P", "c after the nth", "p after the nth"), causes)):
+    for place, (cause, wrong) in enumerate(IMPROPER.items()):
         states = [wrong if i == 2 * place else START for i in range(9)]
         yield Walk(f"13: {cause}", three, with_states(255, states), EACH_CALL)
     started = state_of((1, 8), (3, 8), (3, 8))
@@ -1936,16 +2023,7 @@ def session_vectors() -> Iterator[Vector]:
     yield from (session_vector(*walk) for walk in improper_walks())
     # 4 to 7 come before 13
     two, wrong = table_of(0, 1, TWO), with_states(255, [state_of((9, 9))] * 9)
-    for label, table in (
-        ("policy 5", changed(two, policy=5)),
-        ("m 0", changed(two, m=0)),
-        ("m 9", changed(two, m=9)),
-        ("n 0", changed(two, n=0)),
-        ("n 9", changed(two, n=9)),
-        ("C above D", changed(two, C=entry(two.C, 1, 3))),
-        ("an entry after the nth", changed(two, P=entry(two.P, 7, 1))),
-        ("all wrong", Table(5, 0, 0, (1,) * 8, (0,) * 8, (0,) * 8)),
-    ):
+    for label, table in refused_tables():
         yield session_vector(f"{label}, and no state proper", table, wrong, EACH_CALL)
     yield session_vector("no calls", two, wrong, [])
     yield session_vector("each call", two, BLANK, EACH_CALL)
@@ -1973,6 +2051,205 @@ def session_call_vectors() -> Iterator[Vector]:
 
 
 # ----------------------------------------------------------------------
+# Cuts
+
+CUTS = (*range(10), 255)  # outside 1 to 8 at both ends
+
+
+def cut_vectors() -> Iterator[Vector]:
+    for (policy, name), n in product(enumerate(NAMES), (1, 2, 5, 8)):
+        table = table_of(policy, 1 + (n + policy) % 8, [(i + policy, 20 * i, 25 * i - policy) for i in range(1, n + 1)])
+        yield from (cut_vector(f"{name}, n {n}, k {k}", table, k) for k in CUTS)
+    # the table's refusal comes before 6, whatever k
+    for (label, table), k in product(refused_tables(), (0, 1, 255)):
+        yield cut_vector(f"{label}, k {k}", table, k)
+
+
+def cuts_vectors() -> Iterator[Vector]:
+    for k in CUTS:
+        yield cuts_vector(f"k {k}: a state of any bytes, every mask", k, ref.state_of(filled(16, 11, 37)), bytes(range(256)))
+        yield cuts_vector(f"k {k}: a proper state, eight masks", k, state_of((2, 9), (0, 4), (4, 8)), filled(8, 255, 91))
+    for k in (0, 1, 8, 9):
+        yield cuts_vector(f"k {k}: no byte of the state 0, the empty list", k, State((255,) * 8, (200,) * 8), b"")
+
+
+def cut_sheet_vectors() -> Iterator[Vector]:
+    different = sheet_bytes(table_of(2, 3, [(i, 20 * i, 25 * i) for i in range(1, 9)]))
+    for label, sheet, some in (("the paper's sheet", PAPER, (1, 2)), ("the longest sheet", LONGEST, (1, 7, 8)), ("n 8", different, (5, 6))):
+        for k in some:
+            length = len(sheet_bytes(ref.cut_table(ref.read_sheet(sheet), k)))
+            for space in (length - 1, length, length + 1):
+                yield cut_sheet_vector(f"{label}, k {k}, a space of {space} bytes", sheet, k, space)
+    for policy, name in enumerate(NAMES):
+        sheet = sheet_bytes(table_of(policy, 1 + policy, [(126, 127, 128), (129, 130, 200), (1, 1, 1)]))
+        yield from (cut_sheet_vector(f"{name}, n 3, k {k}", sheet, k, 64) for k in (1, 2, 3, 4))
+    # 6 comes before 12
+    for (label, sheet, n), space in product((("the paper's sheet", PAPER, 2), ("the longest sheet", LONGEST, 8)), (0, 64)):
+        for k in (0, n + 1, 255):
+            yield cut_sheet_vector(f"{label}, k {k}, a space of {space} bytes", sheet, k, space)
+    yield cut_sheet_vector("the paper's sheet, k 1, no space", PAPER, 1, 0)
+    yield cut_sheet_vector("the paper's sheet, k 1, a space of 255 bytes", PAPER, 1, 255)
+    # a sheet's refusal comes before 6 and 12, and leaves every byte
+    for number, sheet in refused_sheets(PAPER):
+        for k, space in ((1, 64), (0, 64), (1, 0)):
+            yield cut_sheet_vector(f"{number}: k {k}, a space of {space} bytes", sheet, k, space)
+
+
+class Part(NamedTuple):
+    """A list, the table that it is played with, k, and the answers of the whole list and of the cut one."""
+
+    label: str
+    policy: int
+    m: int
+    tasks: list[tuple[int, int, int]]
+    k: int
+    masks: list[int]
+    whole: str
+    part: str
+
+
+# Under P-GFP, lists that are not Kept whole: of them the cut list says what its own tasks do.
+LATE = [
+    Part("a low task late", 1, 1, [(1, 1, 1), (1, 2, 2)], 1, [3, 1], "missed 2", "kept"),
+    Part("a low task late, more masks", 1, 1, [(1, 1, 1), (1, 2, 2)], 1, [3, 1, 1, 0, 1], "missed 2", "kept"),
+    Part("a task of both late", 1, 1, [(1, 1, 1), (1, 2, 2), (1, 9, 9)], 2, [7, 1], "missed 2", "missed 2"),
+    Part("a low task late, then one of the cut", 1, 1, [(1, 1, 1), (1, 3, 3), (1, 1, 9)], 2, [7, 1, 1], "missed 1", "missed 3"),
+    Part("a low task late, then a mask too early", 1, 1, [(1, 1, 2), (1, 1, 9)], 1, [3, 1], "missed 1", "refused 11 2"),
+    Part("a low task too early", 1, 1, [(1, 2, 2), (1, 4, 4)], 1, [3, 2, 1], "refused 11 2", "kept"),
+    Part("a bit for no task", 1, 1, [(1, 2, 2), (1, 4, 4)], 2, [4, 3], "refused 11 1", "kept"),
+    Part("a task of both too early", 1, 1, [(1, 2, 2), (1, 4, 4)], 1, [1, 3], "refused 11 2", "refused 11 2"),
+    Part("a low task too early, then one of the cut late", 1, 1, [(1, 1, 1), (1, 2, 2), (1, 9, 9)], 2, [4, 7, 1], "refused 11 2", "missed 3"),
+    Part("a bit for no task, then a mask too early", 1, 1, [(1, 3, 3), (1, 4, 4)], 1, [1, 128, 1], "refused 11 2", "refused 11 3"),
+]
+
+# Under the other policies, lists that are Kept whole and whose cut is not Kept with the cut state. Under NP it may miss: what a low job
+# held back starts, and holds back another. Under P it never does, since no job of the cut has more work left than in the whole; but under
+# P-EDF and P-LST some has less. First the shortest lists that a search of small tables found, each of the smallest of its tables.
+PARTS = [
+    Part("a low job held back the second", 0, 1, [(1, 1, 1), (2, 4, 4), (2, 2, 2)], 2, [4, 2, 1], "kept", "missed 3"),
+    Part("a low job held back the second, two ticks", 0, 1, [(2, 2, 2), (5, 7, 7), (2, 3, 3)], 2, [1, 4, 0, 2, 1], "kept", "missed 5"),
+    Part("a low job held back the third", 0, 2, [(1, 1, 1), (1, 1, 1), (2, 4, 4), (2, 2, 2)], 3, [8, 5, 3], "kept", "missed 3"),
+    Part("a low job held back the first", 0, 1, [(1, 2, 2), (2, 2, 2)], 1, [2, 1], "kept", "kept"),
+    Part("an urgent low job held back the second", 2, 1, [(1, 1, 1), (2, 4, 4), (1, 1, 1)], 2, [6, 1], "kept", "missed 2"),
+    Part("an urgent low job held back the third", 2, 2, [(1, 1, 1), (1, 1, 1), (2, 4, 4), (1, 1, 1)], 3, [13, 3], "kept", "missed 2"),
+    Part("an urgent low job held back the first", 2, 1, [(1, 2, 2), (1, 1, 1)], 1, [3], "kept", "kept"),
+    Part("an urgent low job held back the first", 3, 1, [(1, 2, 2), (1, 1, 1)], 1, [3], "kept", "kept"),
+    Part("an urgent low job held back the second", 3, 2, [(1, 1, 1), (1, 2, 2), (1, 1, 1)], 2, [7], "kept", "kept"),
+    Part("an urgent low job held back the first", 4, 1, [(1, 2, 2), (1, 1, 1)], 1, [3], "kept", "kept"),
+    Part("an urgent low job held back the second", 4, 2, [(1, 1, 1), (1, 2, 2), (1, 1, 1)], 2, [7], "kept", "kept"),
+]
+
+
+def checked_part(case: Part) -> Vector:
+    table, masks = table_of(case.policy, case.m, case.tasks), bytes(case.masks)
+    whole, part = ref.replay(table, masks), ref.cut_replay(table, case.k, masks)
+    assert outcome(whole).startswith(case.whole + " ") and outcome(part).startswith(case.part + " "), case
+    if case.whole == "kept":
+        assert not ref.agrees(table, case.k, masks) and (case.part == "kept" or not ref.is_preempted(table)), case
+    return part_vector(f"{NAMES[case.policy]} {case.tasks} on {case.m}, cut to {case.k}: {case.label}", table, case.k, masks)
+
+
+def busy_masks(dice: Dice, table: Table) -> bytes:
+    """A list of 20 to 60 masks that is kept, up to where most jobs are left; the empty list where those are less than two."""
+    masks = kept_masks(dice, table, 60)
+    jobs, length = max((sum(c > 0 for c in ref.replay(table, masks[:ticks]).state.c), ticks) for ticks in range(20, 61))
+    return masks[:length] if jobs > 1 else b""
+
+
+def agreeing_vectors() -> Iterator[Vector]:
+    """Under P-GFP a list that is Kept, and every cut of it, which is Kept with the cut state."""
+    dice, number = Dice(8), 0
+    tables = [table_of(ref.P_GFP, 2, LOADED), table_of(ref.P_GFP, 2, STRAINED)]
+    tables += [changed(dice.table((4, 12, 200)[i % 3]), policy=ref.P_GFP) for i in range(20)]
+    for table in tables:
+        masks = busy_masks(dice, table)
+        if not masks:
+            continue
+        number += 1
+        for k in range(1, table.n + 1):
+            assert ref.replay(table, masks).answer == "kept" and ref.agrees(table, k, masks)
+            yield part_vector(f"P-GFP: list {number} of {len(masks)} masks, kept, cut to {k}", table, k, masks)
+
+
+def part_vectors() -> Iterator[Vector]:
+    yield from agreeing_vectors()
+    yield from map(checked_part, LATE + PARTS)
+    for policy, name in enumerate(NAMES):
+        dice, loaded = Dice(80 + policy), table_of(policy, 2, LOADED)
+        for k in (1, 2, 3):
+            yield part_vector(f"{name} {LOADED} on 2: a drawn list cut to {k}", loaded, k, drawn_masks(dice, loaded, 20))
+    # a cut that is refused, with the whole list played
+    for k, masks in product((0, 3, 255), (b"", b"\x03\x00")):
+        yield part_vector(f"two tasks, k {k}, {len(masks)} masks", table_of(1, 1, TWO), k, masks)
+    for label, table in refused_tables():
+        yield part_vector(f"{label}, k 3", table, 3, b"\x04")
+
+
+# ----------------------------------------------------------------------
+# Joined lists
+
+
+def joined_vector(label: str, table: Table, masks: bytes, ticks: int) -> Vector:
+    """The masks after the first ones, played from the state where those were Kept: it answers as the whole list does."""
+    first = ref.replay(table, masks[:ticks])
+    assert first.answer == "kept" and ref.joins(table, masks[:ticks], masks[ticks:]), label
+    vector = after_vector(f"{label}, after {ticks} of {len(masks)} masks", table, first.state, ticks, masks[ticks:])
+    assert vector.line == f"after {outcome(ref.replay(table, masks))}", label
+    return vector
+
+
+def joined_vectors() -> Iterator[Vector]:
+    """Lists that are kept, missed and refused, each split at several places."""
+    for policy, name in enumerate(NAMES):
+        table = table_of(policy, 2, LOADED)
+        kept, miss = kept_masks(Dice(90 + policy), table, 40), shortest_miss(table)
+        last = max(i for i in range(40) if kept[i])
+        for label, masks, answer, most in (
+            ("kept", kept, "kept", 40),
+            ("missed", kept[:30] + bytes(5) + miss + b"\xff\x01", f"missed {35 + len(miss)}", 34 + len(miss)),
+            ("refused", kept[: last + 1] + kept[last : last + 1] + b"\x01", f"refused 11 {last + 2}", last + 1),
+        ):
+            assert outcome(ref.replay(table, masks)).startswith(answer + " "), (name, label)
+            yield from (joined_vector(f"{name}: {label}", table, masks, ticks) for ticks in (0, 13, most))
+
+
+BEFORE = (0, 1, 65_536, 2**32 - 1)  # numbers of ticks before a list
+
+
+def raised_vectors() -> Iterator[Vector]:
+    """A number before the list that is not that of any list: it raises the tick's number alone."""
+    full, started = table_of(1, 1, [(2, 2, 2), (1, 2, 2)]), state_of((1, 1))
+    for before, (label, masks) in product(
+        BEFORE,
+        (("the empty list", []), ("kept", [0, 1]), ("missed at its third", [0, 3, 0, 255]), ("refused at its second", [0, 4])),
+    ):
+        yield after_vector(f"{label}, {before} before", full, started, before, bytes(masks))
+
+
+def improper_vectors() -> Iterator[Vector]:
+    """13, by each cause, before 11 and also of the empty list; and 4 to 7 before it."""
+    three = table_of(1, 2, THREE)
+    for (cause, state), masks in product({**IMPROPER, "slack -1": state_of((2, 1)), "d 0": state_of((1, 0))}.items(), (b"", b"\x08")):
+        yield after_vector(f"13: {cause}, {len(masks)} masks", three, state, 7, masks)
+    for policy, name in enumerate(NAMES):
+        started, table = state_of((1, 8), (3, 8), (3, 8)), changed(three, policy=policy)
+        yield after_vector(f"{name}: three started on two cores", table, started, 1, b"\x00\x01")
+    for (label, table), masks in product(refused_tables(), (b"", b"\x04")):
+        yield after_vector(f"{label}, no proper state, {len(masks)} masks", table, state_of((9, 9)), 2**32 - 1, masks)
+
+
+def after_vectors() -> Iterator[Vector]:
+    yield from joined_vectors()
+    yield from raised_vectors()
+    yield from improper_vectors()
+    dice = Dice(9)
+    for number in range(15):
+        table = dice.table((4, 12, 200)[number % 3])
+        state, before = dice.proper_state(table), dice.below(2**32)
+        yield after_vector(f"drawn {number + 1}", table, state, before, drawn_masks(dice, table, 12, state))
+
+
+# ----------------------------------------------------------------------
 # The files
 
 MAKERS = {
@@ -1995,6 +2272,11 @@ MAKERS = {
     "z": totals_vectors,
     "x": session_vectors,
     "y": session_call_vectors,
+    "a": cut_vectors,
+    "b": cuts_vectors,
+    "g": cut_sheet_vectors,
+    "h": part_vectors,
+    "j": after_vectors,
 }
 
 

@@ -1,7 +1,8 @@
 """An independent implementation of the verdict engine's paper (document 01), in plain Python, and of
-seven changes of document 02: its closed lists (§1), its policy 4, least slack first (§3), its order of
+eight changes of document 02: its closed lists (§1), its policy 4, least slack first (§3), its order of
 jobs that are equal otherwise, by age (§4), its totals of where the core time went (§5), its columns of
-the work space (§6), its practice tables (§7), and its sessions with marks (§8).
+the work space (§6), its practice tables (§7), its sessions with marks (§8), and its cut of a table at a
+priority with its joined lists (§9).
 
 It is written from the papers alone and shares nothing with the library: it is slow, direct, and
 meant to be read beside them. Each function's docstring names the section that it follows.
@@ -12,7 +13,8 @@ of this file is the paper's task i + 1 and has bit i of a mask.
 """
 from functools import lru_cache
 from itertools import chain, combinations, islice, product
-from typing import Iterable, Iterator, NamedTuple
+from operator import le
+from typing import Callable, Iterable, Iterator, NamedTuple
 
 TASKS = 8  # entries of a table and of a state
 
@@ -186,6 +188,18 @@ def write_sheet(table: Table, output: bytes) -> tuple[int, bytes]:
     return len(sheet), sheet + output[len(sheet) :]
 
 
+def sheet_call(output: bytes, make: Callable[..., Table], *given) -> tuple[int, bytes]:
+    """A call for C that writes the sheet of a table which it makes: kind x 2^48 + N, with kind 1 and N the
+    length of the sheet, which stands at the front of the output; or kind 0 and N the refusal, that of the
+    making or 12, which leaves every byte. The output handed in is not changed: what it becomes is
+    returned."""
+    try:
+        length, output = write_sheet(make(*given), output)
+    except Refused as refused:
+        return refused.number, output
+    return 2**48 + length, output
+
+
 # ----------------------------------------------------------------------
 # Practice tables
 
@@ -214,14 +228,8 @@ def practice(policy: int, m: int, n: int, s: int) -> Table:
 
 
 def practice_call(policy: int, m: int, n: int, s: int, output: bytes) -> tuple[int, bytes]:
-    """The call for C: kind x 2^48 + N, with kind 1 and N the length of the sheet, which stands at the
-    front of the output; or kind 0 and N the refusal, 4, 5, 6 or 12, which leaves every byte. The output
-    handed in is not changed: what it becomes is returned."""
-    try:
-        length, output = write_sheet(practice(policy, m, n, s), output)
-    except Refused as refused:
-        return refused.number, output
-    return 2**48 + length, output
+    """The call for C, with refusals 4, 5, 6 and 12."""
+    return sheet_call(output, practice, policy, m, n, s)
 
 
 # ----------------------------------------------------------------------
@@ -360,9 +368,9 @@ def tick(table: Table, state: State, mask: int) -> tuple[bool, State]:
 
 class Replayed(NamedTuple):
     """Section "Replay": the answer is "kept", "missed" or "refused". `tick` is the number of the
-    tick that missed or was refused, first tick 1; 0 when the list was kept or the table itself was
-    refused. The state is the last one, the one missed with, or the one that the refused tick was
-    given."""
+    tick that missed or was refused, first tick 1; 0 when the list was kept, or the table itself or the
+    state to play from was refused. The state is the last one, the one missed with, or the one that the
+    refused tick was given."""
 
     answer: str
     refusal: int
@@ -370,16 +378,16 @@ class Replayed(NamedTuple):
     state: State
 
 
-def replay(table: Table, masks: bytes) -> Replayed:
-    """Section "Replay": a byte list is played from the start state, one mask a tick. Kept with the
-    last state; Missed with the tick's number and state, later masks unread; refusal 11 with the
-    tick's number. "Refusals by cause": a call given a table applies 4 to 7 first, also when the
+def play_after(table: Table, state: State, before: int, masks: bytes) -> Replayed:
+    """Document 02, §9: a byte list played from a state, with tick numbers raised by the number of ticks
+    before. Section "Replay": one mask a tick. Kept with the last state; Missed with the tick's number and
+    state, later masks unread; refusal 11 with the tick's number. The empty list keeps the state.
+    "Refusals by cause": a call given a table applies 4 to 7 first, then 13 for the state, also when the
     list is empty."""
-    fault = table_fault(table)
+    fault = table_fault(table) or (0 if is_proper(table, state) else 13)
     if fault:
-        return Replayed("refused", fault, 0, START)
-    state = START
-    for number, mask in enumerate(masks, start=1):
+        return Replayed("refused", fault, 0, state)
+    for number, mask in enumerate(masks, start=before + 1):
         try:
             missed, after = tick(table, state, mask)
         except Refused as refused:
@@ -388,6 +396,22 @@ def replay(table: Table, masks: bytes) -> Replayed:
             return Replayed("missed", 0, number, after)
         state = after
     return Replayed("kept", 0, 0, state)
+
+
+def replay(table: Table, masks: bytes) -> Replayed:
+    """Section "Replay": a byte list is played from the start state, which is proper, and its first tick
+    is 1."""
+    return play_after(table, START, 0, masks)
+
+
+def joins(table: Table, first: bytes, second: bytes) -> bool:
+    """Document 02, §9: playing two joined lists is playing the second from the state where the first was
+    Kept, with tick numbers raised by the first's length. Where the first is Missed or refused the masks
+    after that tick are unread, and the answer is the first's."""
+    played = replay(table, first)
+    if played.answer == "kept":
+        played = play_after(table, played.state, len(first), second)
+    return replay(table, first + second) == played
 
 
 def reaches(table: Table, masks: bytes, state: State) -> bool:
@@ -876,6 +900,57 @@ def session_call(sheet: bytes, space: bytes, call: Call) -> tuple[int, bytes]:
 
 
 # ----------------------------------------------------------------------
+# Cutting the table at a priority
+
+
+def first_tasks(values: tuple[int, ...], k: int) -> tuple[int, ...]:
+    """The first k of eight values, and 0 for the others."""
+    return values[:k] + (0,) * (TASKS - k)
+
+
+def cut_table(table: Table, k: int) -> Table:
+    """Document 02, §9: a table cut to its first k tasks, same policy and m. "Refusals by cause", 4 to 7;
+    judged after the table: 6 for k outside 1 to n."""
+    fault = table_fault(table) or (0 if 1 <= k <= table.n else 6)
+    if fault:
+        raise Refused(fault)
+    entries = (first_tasks(values, k) for values in (table.C, table.D, table.P))
+    return Table(table.policy, table.m, k, *entries)
+
+
+def cut_state(state: State, k: int) -> State:
+    """Document 02, §9: the numbers of the first k tasks, and those after them 0; any k, any state."""
+    return State(first_tasks(state.c, k), first_tasks(state.p, k))
+
+
+def cut_mask(mask: int, k: int) -> int:
+    """Document 02, §9: the low k bits of a mask; of eight or more all that it has."""
+    return mask % 2**k
+
+
+def cut_list(masks: bytes, k: int) -> bytes:
+    """Document 02, §9: every mask cut."""
+    return bytes(cut_mask(mask, k) for mask in masks)
+
+
+def cut_call(sheet: bytes, k: int, output: bytes) -> tuple[int, bytes]:
+    """The call for C, given a sheet, with refusals 1 to 8 by the sheet, then 6, then 12."""
+    return sheet_call(output, lambda: cut_table(read_sheet(sheet), k))
+
+
+def cut_replay(table: Table, k: int, masks: bytes) -> Replayed:
+    """Document 02, §9: the cut list in the cut table."""
+    return replay(cut_table(table, k), cut_list(masks, k))
+
+
+def agrees(table: Table, k: int, masks: bytes) -> bool:
+    """Document 02, §9: if the whole list is Kept, the cut list is Kept in the cut table, with the cut
+    state."""
+    whole = replay(table, masks)
+    return whole.answer != "kept" or cut_replay(table, k, masks) == ("kept", 0, 0, cut_state(whole.state, k))
+
+
+# ----------------------------------------------------------------------
 # What is known without the library
 
 
@@ -1106,6 +1181,75 @@ def check_sessions() -> None:
     assert space == b"\x81" + last + first + b"\xee" * 96 + last + b"\xee" * 2
 
 
+def check_cut() -> None:
+    """Document 02, §9: what a cut keeps, cuts of cuts, the refusals and their order, by value and for C."""
+    three, rest = table_of(P_GFP, 2, [(1, 2, 3), (4, 5, 6), (7, 8, 200)]), (0,) * 7
+    assert cut_table(three, 3) == three and cut_table(three, 1) == (P_GFP, 2, 1, (1, *rest), (2, *rest), (3, *rest))
+    for table in (three, *(table_of(policy, 8, [(i, 20 * i, 25 * i) for i in range(1, 9)]) for policy in POLICIES)):
+        for k, j in product(range(1, table.n + 1), repeat=2):
+            cut, tasks = cut_table(table, k), list(zip(table.C, table.D, table.P))
+            assert table_fault(cut) == 0 and cut == table_of(table.policy, table.m, tasks[:k])
+            assert cut_table(cut, j) == cut_table(table, j) if j <= k else refusal(cut_table, cut, j) == 6
+    state, masks = State(tuple(range(201, 209)), tuple(range(1, 9))), bytes(range(256))
+    for k, j in product((*range(10), 255), repeat=2):
+        assert cut_state(cut_state(state, k), j) == cut_state(state, min(k, j))
+        assert cut_list(cut_list(masks, k), j) == cut_list(masks, min(k, j))
+        assert all(mask_tasks(cut_mask(mask, k)) == [i for i in mask_tasks(mask) if i < k] for mask in masks)
+    assert cut_state(state, 2) == with_jobs((201, 1), (202, 2)) and cut_state(state, 0) == START
+    for k in (0, 4, 255):
+        assert [refusal(cut_table, table, k) for table in (three, three._replace(m=9))] == [6, 5]
+        assert cut_call(sheet_bytes(three), k, b"") == (6, b"") and cut_call(b"\4", k, b"") == (3, b"")
+    assert cut_call(sheet_bytes(three), 1, b"\xff" * 8) == (2**48 + 7, bytes([3, 1, 2, 1, 1, 2, 3, 255]))
+    assert cut_call(sheet_bytes(three), 1, b"\xff" * 6) == (12, b"\xff" * 6)
+
+
+def check_cut_lists() -> None:
+    """Document 02, §9, of every short list of some small tables: under P-GFP cutting agrees with play, and a
+    table's cut is Safe where it is, with no more states; under each other policy some list is Kept whole
+    whose cut is not Kept with the cut state. Under P it is Kept nevertheless, with no more work left; under
+    NP it may miss, where what a low job held back starts and holds back another. And for every policy, of any
+    two lists joined."""
+    tables = [(1, [(1, 2, 2), (1, 2, 2)]), (1, [(1, 2, 2), (2, 4, 4)]), (2, [(2, 3, 3), (1, 2, 2), (2, 4, 4)])]
+    for policy in POLICIES:
+        agreed = set()
+        for m, tasks in tables:
+            table = table_of(policy, m, tasks)
+            for masks in map(bytes, product(range(2**table.n + 1), repeat=5 - table.n)):
+                assert all(joins(table, masks[:ticks], masks[ticks:]) for ticks in range(len(masks) + 1))
+                for k in range(1, table.n + 1):
+                    agreed.add(agrees(table, k, masks))
+                    whole, part = replay(table, masks), cut_replay(table, k, masks)
+                    if is_preempted(table) and whole.answer == "kept":
+                        assert part.answer == "kept" and all(map(le, part.state.c, whole.state.c))
+        assert agreed == ({True} if policy == P_GFP else {True, False})
+    for table in (table_of(P_GFP, m, tasks) for m, tasks in tables):
+        kind, _, count = verdict(table, MOST_SLOTS)
+        cuts = [verdict(cut_table(table, k), MOST_SLOTS) for k in range(1, table.n + 1)]
+        assert kind == "safe" and all(found.kind == "safe" and found.N <= count for found in cuts)
+    held, masks = table_of(NP_GFP, 1, [(2, 2, 2), (5, 7, 7), (2, 3, 3)]), bytes([1, 4, 0, 2, 1])
+    assert replay(held, masks) == ("kept", 0, 0, with_jobs((1, 1), (5, 5)))
+    assert cut_replay(held, 2, masks) == ("missed", 0, 5, with_jobs((2, 1), (3, 5)))
+
+
+def check_after() -> None:
+    """Document 02, §9: a list played from a state, reached or not, with raised tick numbers; the refusals
+    and their order, also of the empty list; and that a list is played from the state alone."""
+    full, started = table_of(P_GFP, 1, [(2, 2, 2), (1, 2, 2)]), with_jobs((1, 1))
+    late = with_jobs((1, 0))
+    for before in (0, 1, 7, 2**32 - 1):
+        assert play_after(full, started, before, b"") == ("kept", 0, 0, started)
+        assert play_after(full, started, before, b"\0") == ("kept", 0, 0, START)
+        assert play_after(full, started, before, b"\0\3\0\0") == ("missed", 0, before + 3, with_jobs((0, 0), (1, 0)))
+        assert play_after(full, started, before, b"\0\4") == ("refused", 11, before + 2, START)
+        assert play_after(full, started, before, b"\1") == ("refused", 11, before + 1, started)
+        for masks in (b"", b"\0", b"\4"):
+            assert play_after(full, late, before, masks) == ("refused", 13, 0, late)
+            assert play_after(full._replace(n=9), late, before, masks) == ("refused", 6, 0, late)
+    for state in with_jobs((2, 2)), with_jobs((0, 2), (1, 2)), started:
+        played = play_after(full, state, 0, b"\0")
+        assert (played.answer == "missed", played.state) == tick(full, state, 0)
+
+
 def check_beside_deadlines() -> None:
     """Policy 4 beside 3, on every table of two tasks with P at most 3. On one core each of them keeps
     whatever can be kept, so neither is Safe without the other. With C = 1 for both tasks the slack is
@@ -1121,7 +1265,7 @@ def check_beside_deadlines() -> None:
 def self_check() -> None:
     """Section "Benchmark tables": every entry, starred or not. Then demand 3: the levels are those
     that replaying every list gives. Then files of states, policy 4, the age, the totals, the columns,
-    practice tables, and sessions."""
+    practice tables, sessions, cuts, and joined lists."""
     big = MOST_SLOTS
     two = table_of(P_GFP, 1, [(1, 2, 2), (1, 2, 2)])
     assert verdict(two, big) == ("safe", 0, 4) and verdict(two, 3) == ("room", 0, 3)
@@ -1160,6 +1304,9 @@ def self_check() -> None:
     check_practice()
     check_sessions()
     check_session_faults()
+    check_cut()
+    check_cut_lists()
+    check_after()
 
 
 if __name__ == "__main__":

@@ -2,6 +2,7 @@
 // A record is a kind, the length of its body in two bytes, low byte first, and the body;
 // tests/make_vectors.py makes the records and the lines expected, and says what each kind holds.
 mod columns;
+mod cuts;
 mod drawn;
 mod files;
 mod number;
@@ -38,6 +39,11 @@ fn answer(kind: u8, body: &[u8]) {
         b'z' => totals::call(body),
         b'x' => sessions::calls(body),
         b'y' => sessions::calls_for_c(body),
+        b'a' => cuts::of_table(body),
+        b'b' => cuts::of_state(body),
+        b'g' => cuts::of_sheet(body),
+        b'h' => cuts::of_list(body),
+        b'j' => tick::after(body),
         _ => text::unknown(),
     }
 }

@@ -102,7 +102,9 @@ pub fn first(body: &[u8], count: usize) -> &[u8] {
 }
 
 // The number in the first four bytes of a body, low byte first.
-pub fn four(body: &[u8]) -> usize {
+pub fn four(body: &[u8]) -> usize
+    ensures { λ r. ⌜ r ≤ 4294967295 ⌝ }
+{
     let low = wide(byte(body, 0)) + 256 * wide(byte(body, 1));
     let high = wide(byte(body, 2)) + 256 * wide(byte(body, 3));
     low + 65536 * high

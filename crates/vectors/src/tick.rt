@@ -1,13 +1,14 @@
-// States, ticks and replays.
+// States, ticks, replays and lists that are played from a state.
 use crate::table;
 use crate::text;
 use tasks::Outcome;
 use tasks::ReplayAnswer;
+use tasks::Replayed;
 use tasks::State;
 use tasks::TickAnswer;
 
 // How many bytes a state has in a body: c and p of each of eight tasks.
-const LENGTH: usize = 16;
+pub const LENGTH: usize = 16;
 
 // Every second byte of a body, eight of them.
 fn every_second(b: &[u8]) -> [u8; 8] {
@@ -90,13 +91,29 @@ pub fn print_replay(answer: ReplayAnswer) {
     }
 }
 
-// Kind p, a table and masks: the answer of the replay, and its state.
-pub fn replay(body: &[u8]) {
-    let t = table::of_body(body);
-    let replayed = tasks::replay(t, text::rest(body, table::LENGTH));
-    text::put(b"replay");
+// Prints the answer of a replay, and its state.
+pub fn print_replayed(replayed: Replayed) {
     let answer = replayed.answer;
     print_replay(answer);
     print(replayed.state);
+}
+
+// Kind p, a table and masks: the answer of the replay, and its state.
+pub fn replay(body: &[u8]) {
+    let t = table::of_body(body);
+    text::put(b"replay");
+    print_replayed(tasks::replay(t, text::rest(body, table::LENGTH)));
+    text::end();
+}
+
+// Kind j, a table, a state, a number of ticks before and masks: the answer of the list played from the state,
+// and its last state.
+pub fn after(body: &[u8]) {
+    let t = table::of_body(body);
+    let s = of_body(text::rest(body, table::LENGTH));
+    let given = text::rest(body, table::LENGTH + LENGTH);
+    let ticks = text::four(given) as u32;
+    text::put(b"after");
+    print_replayed(joined::play_after(t, s, ticks, text::rest(given, 4)));
     text::end();
 }

@@ -28,11 +28,8 @@ fn print(totals: Totals) {
 pub fn account(body: &[u8]) {
     let t = table::of_body(body);
     let account = service::service(t, text::rest(body, table::LENGTH));
-    let replayed = account.replayed;
     text::put(b"service");
-    let answer = replayed.answer;
-    tick::print_replay(answer);
-    tick::print(replayed.state);
+    tick::print_replayed(account.replayed);
     text::put(b" totals");
     print(account.totals);
     text::end();
