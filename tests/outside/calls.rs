@@ -31,6 +31,7 @@ extern "C" {
     fn ronchhek_write(table: *const u8, table_len: usize, out: *mut u8, out_len: usize) -> u64;
     fn ronchhek_closed(sheet: *const u8, sheet_len: usize, states: *const u8, states_len: usize) -> u64;
     fn ronchhek_practice(policy: u8, m: u8, n: u8, seed: u16, out: *mut u8, out_len: usize) -> u64;
+    fn ronchhek_cut(sheet: *const u8, sheet_len: usize, k: u8, out: *mut u8, out_len: usize) -> u64;
     fn ronchhek_session_step(sheet: *const u8, sheet_len: usize, session: *mut u8, session_len: usize, mask: u8)
         -> u64;
     fn ronchhek_session_mark(sheet: *const u8, sheet_len: usize, session: *mut u8, session_len: usize, mark: u8)
@@ -77,6 +78,10 @@ pub fn closed(sheet: &[u8], file: &[u8]) -> u64 {
 pub fn practice(given: Practice, out: &mut [u8]) -> u64 {
     let Practice { policy, cores, tasks, seed } = given;
     unsafe { ronchhek_practice(policy, cores, tasks, seed, out.as_mut_ptr(), out.len()) }
+}
+
+pub fn cut(sheet: &[u8], k: u8, out: &mut [u8]) -> u64 {
+    unsafe { ronchhek_cut(sheet.as_ptr(), sheet.len(), k, out.as_mut_ptr(), out.len()) }
 }
 
 /// One of the three calls on a session.

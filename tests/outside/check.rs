@@ -14,8 +14,8 @@ pub struct Searched<'a> {
     pub answer: u64,
 }
 
-/// The one space of a call of ronchhek_replay, ronchhek_service, ronchhek_read, ronchhek_write or ronchhek_practice, or of a call on a
-/// session.
+/// The one space of a call of ronchhek_replay, ronchhek_service, ronchhek_read, ronchhek_write, ronchhek_practice or ronchhek_cut, or of
+/// a call on a session.
 pub struct Called<'a> {
     pub before: &'a [u8],
     pub after: &'a [u8],
@@ -240,7 +240,19 @@ pub fn fitted(bytes: Result<Vec<u8>, u8>, space: usize) -> Result<Vec<u8>, u8> {
     bytes.and_then(|b| if space < b.len() { Err(12) } else { Ok(b) })
 }
 
-/// A call of ronchhek_read, ronchhek_write or ronchhek_practice: the bytes at the front of the space, or the refusal.
+/// The sheet of a cut, or its refusal: that of the sheet that is cut, then 6, then 12.
+pub fn cut_outcome(m: &Model, reading: &Result<Table, u8>, k: u8, space: usize) -> Result<Vec<u8>, u8> {
+    if m.fault == 51 && !(1..=TASKS as u8).contains(&k) {
+        return Err(6);
+    }
+    let t = reading.as_ref().map_err(|r| *r)?;
+    if m.fault == 54 {
+        fitted(m.cut_sheet(t, k.clamp(1, t.tasks.len() as u8)), space)?;
+    }
+    fitted(m.cut_sheet(t, k), space)
+}
+
+/// A call of ronchhek_read, ronchhek_write, ronchhek_practice or ronchhek_cut: the bytes at the front of the space, or the refusal.
 pub fn written(outcome: &Result<Vec<u8>, u8>, c: &Called) -> Result<(), String> {
     let expected = packed_bytes(outcome);
     if c.answer != expected {

@@ -1,9 +1,9 @@
 /* corpus FOLDER: every line of FOLDER/cases.txt in one process, for valgrind: each space is a heap block of the exact size that
  * nothing wrote to before. The first line of a verdict must be the one expected, the list of an unsafe one must miss at its last
  * tick, the parents and masks of the slots must lead to their states, the states of a search must be accepted as a file exactly when
- * it is safe, the totals of every list must balance, a session must be where the replay of its masks is, and the table of an accepted
- * sheet must give the same sheet again. Then practice sheets, which must give the same sheet again too. Ends with status 1 at the first
- * difference. */
+ * it is safe, the totals of every list must balance, a session must be where the replay of its masks is, the table of an accepted
+ * sheet must give the same sheet again, and a cut must be the front of the sheet but for n. Then practice sheets, which must give the
+ * same sheet again too. Ends with status 1 at the first difference. */
 #include <stdio.h>
 #include <stdlib.h>
 #include <string.h>
@@ -253,6 +253,55 @@ static void exchange(const char *name, const uint8_t *sheet, size_t len)
     free(out);
 }
 
+/* A sheet cut to k in a block of the cut's length, and in one that is a byte shorter: the sheet's first bytes but for n, which is k; cut
+ * again it stays. The cut's length. */
+static size_t cut(const char *name, const uint8_t *sheet, size_t len, uint8_t k)
+{
+    uint8_t *longest = space(len), *again = space(len);
+    uint64_t answer = ronchhek_cut(sheet, len, k, longest, len);
+    size_t cut_len = RONCHHEK_COUNT(answer);
+    if (RONCHHEK_KIND(answer) != RONCHHEK_DONE || cut_len > len)
+        fail(name, "a cut is not done");
+    uint8_t *exact = space(cut_len), *shorter = space(cut_len - 1);
+    if (ronchhek_cut(sheet, len, k, exact, cut_len) != answer || ronchhek_cut(exact, cut_len, k, again, len) != answer
+        || memcmp(exact, longest, cut_len) != 0 || memcmp(again, longest, cut_len) != 0)
+        fail(name, "cut again it differs");
+    if (memcmp(exact, sheet, 3) != 0 || exact[3] != k || memcmp(exact + 4, sheet + 4, cut_len - 4) != 0)
+        fail(name, "a cut is not the front of its sheet");
+    if (ronchhek_cut(sheet, len, k, shorter, cut_len - 1) != 12)
+        fail(name, "a cut into a space too short is answered otherwise than expected");
+    exchange(name, exact, cut_len);
+    free(longest);
+    free(again);
+    free(exact);
+    free(shorter);
+    return cut_len;
+}
+
+/* Every cut of an accepted sheet, each longer than the one before and the last the sheet itself; and any other k, or a refused sheet,
+ * with a block that nothing wrote to. */
+static void cuts(const char *name, const uint8_t *sheet, size_t len)
+{
+    uint8_t *table = space(RONCHHEK_TABLE_BYTES), *out = space(len);
+    uint64_t answer = ronchhek_read(sheet, len, table, RONCHHEK_TABLE_BYTES);
+    unsigned tasks = RONCHHEK_KIND(answer) == RONCHHEK_DONE ? table[2] : 0;
+    size_t cut_len = 0;
+    for (unsigned k = 0; k <= 255; k++) {
+        if (k >= 1 && k <= tasks) {
+            size_t before = cut_len;
+            cut_len = cut(name, sheet, len, (uint8_t)k);
+            if (cut_len <= before)
+                fail(name, "a cut is no longer than one to fewer tasks");
+        } else if (ronchhek_cut(sheet, len, (uint8_t)k, out, len) != (tasks ? 6 : answer)) {
+            fail(name, "a cut is not refused as expected");
+        }
+    }
+    if (tasks && cut_len != len)
+        fail(name, "cut to all of its tasks it has another length");
+    free(table);
+    free(out);
+}
+
 /* A practice sheet in a block of its length, read and written again; and none in a block that is a byte shorter. */
 static void practice(uint8_t policy, uint8_t m, uint8_t n, uint16_t seed)
 {
@@ -305,6 +354,7 @@ int main(int argc, char **argv)
         exchange(name, sheet, len);
         services(name, sheet, len);
         sessions(name, sheet, len);
+        cuts(name, sheet, len);
         free(sheet);
         lines++;
     }

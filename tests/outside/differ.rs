@@ -1,6 +1,6 @@
 //! Differential test: the library's calls against the independent implementation of model.rs.
 //!
-//!     differ [--seed S] [--sheets N] [--case I] [--fault 1..58] [--corpus DIR]
+//!     differ [--seed S] [--sheets N] [--case I] [--fault 1..72] [--corpus DIR]
 //!
 //! Prints its seed, and at the end what was met. Ends with status 1 at the first difference.
 //! `--case I` runs that sheet of the seed alone. `--fault` seeds a mistake: in the independent side, or, of the layout, in the work
@@ -10,6 +10,7 @@
 mod ages;
 mod calls;
 mod check;
+mod cut;
 mod evidence;
 mod files;
 mod gen;
@@ -396,6 +397,7 @@ impl Run {
         self.exchange(r, &s)?;
         self.evidence(r, &s)?;
         self.sessions(r, &s)?;
+        self.cuts(r, &s)?;
         let Some(levels) = &s.levels else {
             for _ in 0..3 {
                 let k = r.below(4);
@@ -729,6 +731,8 @@ fn whole_run(run: &mut Run, seed: u64, sheets: u64) -> Result<(), String> {
         run.improper_files(&mut r).map_err(|e| format!("improper files: {e}"))?;
         run.large_files(&mut r).map_err(|e| format!("large files: {e}"))?;
         run.every_tick(&mut r).map_err(|e| format!("a release at every tick: {e}"))?;
+        run.every_cut(&mut r).map_err(|e| format!("every cut: {e}"))?;
+        run.parted_lists().map_err(|e| format!("parted lists: {e}"))?;
         run.every_mark(&mut r).map_err(|e| format!("every mark: {e}"))?;
         run.under_each_policy(&mut r, Run::long_session).map_err(|e| format!("hundreds of calls: {e}"))?;
         for _ in 0..sheets.min(20_000) / 1000 {
@@ -788,7 +792,7 @@ fn complete(met: &Met) -> Result<(), String> {
     let answers = ["Safe", "Unsafe", "No room", "replay Kept", "replay Missed", "file accepted", "file no"];
     for p in 0..POLICIES {
         all.push(format!("sheets of policy {p}"));
-        let musts = answers.iter().chain(&service::MUST).chain(&session::MUST);
+        let musts = answers.iter().chain(&service::MUST).chain(&session::MUST).chain(&cut::MUST_EACH);
         all.extend(musts.map(|answer| format!("{answer} under policy {p}")));
     }
     all.extend(["sheets", "tables"].map(|what| format!("{what} refused 4, for policy 5")));
@@ -798,6 +802,8 @@ fn complete(met: &Met) -> Result<(), String> {
     all.extend([4, 5, 6, 12].map(|n| format!("practice refused {n:2}")));
     all.extend((1..=8).map(|n| format!("practice tables of {n} tasks")));
     all.extend(session::NAMES.iter().flat_map(|call| (1..=8).map(move |n| format!("{call} refused {n:2}"))));
+    all.extend([1, 2, 3, 4, 5, 6, 7, 8, 12].map(|n| format!("cut refused {n:2}")));
+    all.extend(cut::MUST.map(String::from));
     all.extend(["read done", "write done", "practice done"].map(String::from));
     all.extend(KINDS.map(|kind| format!("{kind} with every rest")));
     match all.iter().find(|what| met.of(what) < 20) {
@@ -859,6 +865,6 @@ fn faults() -> impl Iterator<Item = &'static str> {
 }
 
 fn usage() -> ! {
-    eprintln!("usage: differ [--seed S] [--sheets N] [--case I] [--fault 1..58] [--corpus DIR]");
+    eprintln!("usage: differ [--seed S] [--sheets N] [--case I] [--fault 1..72] [--corpus DIR]");
     std::process::exit(2);
 }

@@ -226,6 +226,16 @@ fn practice(r: &mut Rng, m: &Model, spaces: &Spaces) -> Result<(), String> {
     written(r, &spaces.state, len, bytes, |space| calls::practice(given, space)).map_err(|e| format!("{given:?}: {e}"))
 }
 
+/// The sheet cut, to a k that is accepted or to another.
+fn cut(r: &mut Rng, m: &Model, spaces: &Spaces, sheet: &[u8], reading: &Result<Table, u8>) -> Result<(), String> {
+    let ks = gen::cuts(r, reading);
+    let k = r.pick(&ks);
+    let bytes = reading.as_ref().map_err(|n| *n).and_then(|t| m.cut_sheet(t, k));
+    let len = length(r, bytes.as_ref().map_or(LONGEST, Vec::len));
+    written(r, &spaces.state, len, bytes, |space| calls::cut(sheet, k, space))
+        .map_err(|e| format!("sheet {sheet:?} cut to {k}: {e}"))
+}
+
 /// The session of a case: of states that lists reach, fresh or not, damaged, or random bytes.
 fn any_session(r: &mut Rng, m: &Model, reading: &Result<Table, u8>) -> Vec<u8> {
     match (reading, r.below(8)) {
@@ -397,6 +407,7 @@ fn case(r: &mut Rng, m: &Model, spaces: &Spaces, most_slots: usize, found: &mut 
     replays(r, m, spaces, spaces.input.bytes(&input), &list)?;
     found[4] += 1;
     session(r, m, spaces, spaces.input.bytes(&input), &reading)?;
+    cut(r, m, spaces, spaces.input.bytes(&input), &reading)?;
     exchange(r, m, spaces, &sheet, &reading)?;
     practice(r, m, spaces)
 }
@@ -450,7 +461,7 @@ fn main() {
     println!(
         "fuzz: the states of each search judged, and as many files ({accepted} accepted, {no} no, {unread} refused)"
     );
-    println!("fuzz: as many sheets read, tables written and practice sheets made, no fault");
+    println!("fuzz: as many sheets read and cut, tables written and practice sheets made, no fault");
 }
 
 fn usage() -> ! {

@@ -1,5 +1,5 @@
-//! Generated sheets and tables, valid and damaged; what practice tables are made of; release lists; and sessions with calls on
-//! them.
+//! Generated sheets and tables, valid and damaged; what practice tables are made of; what sheets are cut to; release lists; and
+//! sessions with calls on them.
 
 use crate::files;
 use crate::model::{self, Call, Model, Practice, Session, State, Table, Task, Tick, MARKS, POLICIES, SESSION};
@@ -202,6 +202,15 @@ pub fn practice(r: &mut Rng) -> Practice {
     Practice { policy: byte(r, 0, POLICIES - 1), cores: byte(r, 1, 8), tasks: byte(r, 1, 8), seed: r.next() as u16 }
 }
 
+/// What a sheet may be cut to: every k that is accepted, and others.
+pub fn cuts(r: &mut Rng, reading: &Result<Table, u8>) -> Vec<u8> {
+    let n = reading.as_ref().map_or(1, |t| t.tasks.len() as u8);
+    let mut ks: Vec<u8> = (0..=n + 1).chain([8, 9, 255, r.byte()]).collect();
+    ks.sort();
+    ks.dedup();
+    ks
+}
+
 /// A sheet: half of them valid, the others damaged in one place, in several, or random bytes.
 pub fn sheet(r: &mut Rng) -> Vec<u8> {
     let t = table(r);
@@ -245,8 +254,12 @@ pub fn legal_mask(r: &mut Rng, t: &Table, s: &State) -> u8 {
 
 /// Legal masks while nothing is missed, then any bytes.
 pub fn list(r: &mut Rng, m: &Model, t: &Table, len: usize) -> Vec<u8> {
+    list_from(r, m, t, State::default(), len)
+}
+
+/// The same from a proper state.
+pub fn list_from(r: &mut Rng, m: &Model, t: &Table, mut s: State, len: usize) -> Vec<u8> {
     let mut list = Vec::with_capacity(len);
-    let mut s = State::default();
     let mut over = false;
     for _ in 0..len {
         if over {

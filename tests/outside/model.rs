@@ -1,8 +1,8 @@
 //! The rules of document 01 written once more: sheet, table, tick, replay, and a search with plain sets; and those of document
 //! 02's closed lists (§1), least slack first (§3), equal jobs by age (§4), where the core time went (§5), practice tables from a
-//! number (§7) and marks in a session (§8), in bytes as include/ronchhek.h has them. The columns of its work space (§6) are in
-//! layout.rs. Slow and direct; shares nothing with the library. Section names in the comments are document 01's. Tasks are counted
-//! from 0 here, so task i of this file is the document's task i + 1.
+//! number (§7), marks in a session (§8) and cutting the table at a priority (§9), in bytes as include/ronchhek.h has them. The columns
+//! of its work space (§6) are in layout.rs. Slow and direct; shares nothing with the library. Section names in the comments are
+//! document 01's. Tasks are counted from 0 here, so task i of this file is the document's task i + 1.
 
 use crate::layout::SLOT;
 use std::collections::{HashMap, HashSet};
@@ -209,7 +209,7 @@ pub struct Model {
 pub const BY_NUMBER: u8 = 23;
 
 /// Faults that `Model` knows.
-pub const FAULTS: [&str; 48] = [
+pub const FAULTS: [&str; 62] = [
     "under NP an urgent job takes a started job's core",
     "a deadline is tested only when no time is left",
     "a task's rule is judged after all tasks",
@@ -258,6 +258,20 @@ pub const FAULTS: [&str; 48] = [
     "the states of a session are judged before its length",
     "the flag of a mark is one bit off",
     "the mask of a step is judged before the states of its session",
+    "a cut leaves the last k tasks",
+    "a cut has no more cores than tasks",
+    "the k of a cut is judged before its sheet",
+    "a cut to no task is let pass",
+    "a cut to more tasks than there are leaves all of them",
+    "a space too short for a cut is judged before its k",
+    "the tasks after the kth stay in a cut",
+    "a cut says as many tasks as before",
+    "a cut mask has one bit more",
+    "a cut state has the p of every task",
+    "a list that is kept is kept with the cut state when cut, under every policy that preempts",
+    "a safe table's cut has as many states as the table",
+    "the second of two joined lists is played from the start state",
+    "the ticks of the second of two joined lists are numbered from 1",
 ];
 
 // The sheet.
@@ -560,9 +574,24 @@ impl Model {
         self.play(t, list).0
     }
 
+    /// Document 02's §9: a list played from a proper state, its tick numbers raised by the ticks before it.
+    pub fn play_after(&self, t: &Table, s: &State, before: usize, list: &[u8]) -> Replay {
+        let s = if self.fault == 61 { State::default() } else { *s };
+        let before = if self.fault == 62 { 0 } else { before };
+        match self.play_from(t, s, list).0 {
+            Replay::Kept(last) => Replay::Kept(last),
+            Replay::Missed(tick, last) => Replay::Missed(before + tick, last),
+            Replay::Illegal(tick) => Replay::Illegal(before + tick),
+        }
+    }
+
     /// A replay, and where the core time went in the ticks that were played.
     pub fn play(&self, t: &Table, list: &[u8]) -> (Replay, Totals) {
-        let mut s = State::default();
+        self.play_from(t, State::default(), list)
+    }
+
+    /// The same from any proper state.
+    fn play_from(&self, t: &Table, mut s: State, list: &[u8]) -> (Replay, Totals) {
         let mut totals = Totals::default();
         let first = if self.fault == 5 { 0 } else { 1 };
         for (i, &mask) in list.iter().enumerate() {
@@ -592,6 +621,58 @@ impl Model {
             (Tick::Next(s) | Tick::Missed(s), 33) => (mask, bits(|i| s.left[i] < given.left[i])),
             _ => (mask, choice),
         }
+    }
+
+    // Cutting at a priority.
+
+    /// Document 02's §9: "its first k tasks (1 to n, same m)", or refusal 6.
+    pub fn cut_table(&self, t: &Table, k: u8) -> Result<Table, u8> {
+        let (n, k) = (t.tasks.len(), k as usize);
+        let kept = match k {
+            0 if self.fault != 52 => return Err(6),
+            _ if k > n && self.fault != 53 => return Err(6),
+            _ => k.min(n),
+        };
+        let tasks = match self.fault {
+            49 => &t.tasks[n - kept..],
+            55 => &t.tasks[..],
+            _ => &t.tasks[..kept],
+        };
+        let cores = if self.fault == 50 { t.cores.min(k as u8) } else { t.cores };
+        Ok(Table { policy: t.policy, cores, tasks: tasks.to_vec() })
+    }
+
+    /// The sheet of the cut table.
+    pub fn cut_sheet(&self, t: &Table, k: u8) -> Result<Vec<u8>, u8> {
+        let mut sheet = write_sheet(&self.cut_table(t, k)?);
+        if self.fault == 56 {
+            sheet[3] = t.tasks.len() as u8;
+        }
+        Ok(sheet)
+    }
+
+    /// "Cutting every mask to its low k bits."
+    pub fn cut_mask(&self, mask: u8, k: u8) -> u8 {
+        let k = if self.fault == 57 { k + 1 } else { k };
+        bits(|i| i < k as usize && mask >> i & 1 == 1)
+    }
+
+    pub fn cut_list(&self, list: &[u8], k: u8) -> Vec<u8> {
+        list.iter().map(|&mask| self.cut_mask(mask, k)).collect()
+    }
+
+    /// c and p of the first k tasks.
+    pub fn cut_state(&self, s: &State, k: u8) -> State {
+        let mut cut = State::default();
+        for i in 0..TASKS {
+            if i < k as usize {
+                cut.left[i] = s.left[i];
+            }
+            if i < k as usize || self.fault == 58 {
+                cut.wait[i] = s.wait[i];
+            }
+        }
+        cut
     }
 
     // Sessions.

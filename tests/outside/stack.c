@@ -16,7 +16,7 @@ static const uint8_t one_state[] = {3, 1, 1, 1, 1, 1, 1}; /* its only state is t
 static uint8_t session[RONCHHEK_SESSION_BYTES]; /* every mark is set, and every state is the start state */
 
 struct job {
-    enum { NOTHING, VERDICT, REPLAY, SERVICE, READ, WRITE, PRACTICE, STEP, MARK, RETURN, ACCEPTED, NO } kind;
+    enum { NOTHING, VERDICT, REPLAY, SERVICE, READ, WRITE, PRACTICE, CUT, STEP, MARK, RETURN, ACCEPTED, NO } kind;
     uint8_t *work, *trace;
     size_t slots;          /* or the states of a file, which are start states in the work space */
     uint64_t answer;
@@ -40,6 +40,8 @@ static void *run(void *given)
         ronchhek_write(table, sizeof table, out, sizeof out);
     if (job->kind == PRACTICE)
         ronchhek_practice(sheet[1], 8, 8, 65535, out, sizeof out);
+    if (job->kind == CUT)
+        job->answer = ronchhek_cut(sheet, sizeof sheet, sheet[3], out, sizeof out);
     if (job->kind == STEP)
         job->answer = ronchhek_session_step(sheet, sizeof sheet, session, sizeof session, list[0]);
     if (job->kind == MARK)
@@ -114,13 +116,13 @@ static int file(struct job job, size_t thread)
 static int small_calls(struct job job, size_t thread)
 {
     static const char *const names[] = {[REPLAY] = "replay", [SERVICE] = "replay with totals", [READ] = "read", [WRITE] = "write",
-                                        [PRACTICE] = "practice sheet", [STEP] = "session's step", [MARK] = "session's mark",
-                                        [RETURN] = "session's return"};
+                                        [PRACTICE] = "practice sheet", [CUT] = "cut", [STEP] = "session's step",
+                                        [MARK] = "session's mark", [RETURN] = "session's return"};
     int within = 1;
     for (job.kind = REPLAY; job.kind <= RETURN; job.kind++) {
         size_t measured = used(&job) - thread;
-        if (job.kind >= STEP && job.answer != (uint64_t)RONCHHEK_DONE << 48) {
-            fputs("stack: a call on a session is answered otherwise than expected\n", stderr);
+        if (job.kind >= CUT && RONCHHEK_KIND(job.answer) != RONCHHEK_DONE) {
+            fputs("stack: a cut or a call on a session is not done\n", stderr);
             exit(2);
         }
         printf("stack of a %s: %zu of %d\n", names[job.kind], measured, RONCHHEK_STACK_REPLAY);
