@@ -1,9 +1,8 @@
 -- What a cut leaves of each task and of each bit, and that a cut of a cut is one cut. Assumes nothing.
-use Prim.Native.Nat.{ℕ, _/_, _%_, _^_, _≤_, _<_}
+use Prim.Native.Nat.{ℕ, _≤_, _<_}
 use mathlib.Core.Path.{_≡_, refl, ap, ap₂, _∙_}
 use mathlib.Core.List.{List, [], _∷_}
-use mathlib.Core.Bool.{Bool, true, false}
-use native.Mathlib.Omega.{arith}
+use mathlib.Core.Bool.{false}
 use lib.Dec.{eqb, ltb}
 use lib.ListN.{getD}
 use borrow.Author.Tests.{lt-ltb, le-ltb, ltb-true, ltb-false}
@@ -27,46 +26,43 @@ first-in k l i h b = front-at k (λ j. getD l j 0) i h ∙ ap (λ x. pick x (get
 pub first-out : (k : ℕ) (l : List ℕ) (i : ℕ) → i < 8 → k ≤ i → getD (firstOf k l) i 0 ≡ 0
 first-out k l i h b = front-at k (λ j. getD l j 0) i h ∙ ap (λ x. pick x (getD l i 0) 0) (le-ltb i k b)
 
+-- the numbers of task i in a table and a state
+pub record TaskHas (t : Table) (s : State) (i C D P left next : ℕ) : Type 0 where
+  pub work : getD (t .work) i 0 ≡ C
+  pub deadline : getD (t .deadline) i 0 ≡ D
+  pub gap : getD (t .gap) i 0 ≡ P
+  pub c : getD (s .c) i 0 ≡ left
+  pub p : getD (s .p) i 0 ≡ next
+
 -- task i has the same numbers in two tables and two states
-pub record SameTask (t u : Table) (s v : State) (i : ℕ) : Type 0 where
-  pub work : getD (t .work) i 0 ≡ getD (u .work) i 0
-  pub deadline : getD (t .deadline) i 0 ≡ getD (u .deadline) i 0
-  pub gap : getD (t .gap) i 0 ≡ getD (u .gap) i 0
-  pub c : getD (s .c) i 0 ≡ getD (v .c) i 0
-  pub p : getD (s .p) i 0 ≡ getD (v .p) i 0
+abbrev pub SameTask : Table → Table → State → State → ℕ → Type 0
+SameTask t u s v i = TaskHas t s i (getD (u .work) i 0) (getD (u .deadline) i 0) (getD (u .gap) i 0) (getD (v .c) i 0) (getD (v .p) i 0)
 
 -- every number of task i is 0
-pub record NoTask (t : Table) (s : State) (i : ℕ) : Type 0 where
-  pub work : getD (t .work) i 0 ≡ 0
-  pub deadline : getD (t .deadline) i 0 ≡ 0
-  pub gap : getD (t .gap) i 0 ≡ 0
-  pub c : getD (s .c) i 0 ≡ 0
-  pub p : getD (s .p) i 0 ≡ 0
+abbrev pub NoTask : Table → State → ℕ → Type 0
+NoTask t s i = TaskHas t s i 0 0 0 0 0
 
 module _ (k : ℕ) (t : Table) (s : State) (i : ℕ) (h : i < 8) where
+  task-at :
+      TaskHas (cutTable k t) (cutState k s) i (pick (ltb i k) (getD (t .work) i 0) 0) (pick (ltb i k) (getD (t .deadline) i 0) 0)
+      (pick (ltb i k) (getD (t .gap) i 0) 0) (pick (ltb i k) (getD (s .c) i 0) 0) (pick (ltb i k) (getD (s .p) i 0) 0)
+  unfolding cutTable cutState
+  task-at =
+      record {
+        work = front-at k (λ j. getD (t .work) j 0) i h;
+        deadline = front-at k (λ j. getD (t .deadline) j 0) i h;
+        gap = front-at k (λ j. getD (t .gap) j 0) i h;
+        c = front-at k (λ j. getD (s .c) j 0) i h;
+        p = front-at k (λ j. getD (s .p) j 0) i h;
+      }
+
   -- the first k tasks stay as they are
   pub task-in : i < k → SameTask (cutTable k t) t (cutState k s) s i
-  unfolding cutTable cutState
-  task-in b =
-      record {
-        work = first-in k (t .work) i h b;
-        deadline = first-in k (t .deadline) i h b;
-        gap = first-in k (t .gap) i h b;
-        c = first-in k (s .c) i h b;
-        p = first-in k (s .p) i h b;
-      }
+  task-in b = rw (lt-ltb i k b) at task-at
 
   -- no other is left
   pub task-out : k ≤ i → NoTask (cutTable k t) (cutState k s) i
-  unfolding cutTable cutState
-  task-out b =
-      record {
-        work = first-out k (t .work) i h b;
-        deadline = first-out k (t .deadline) i h b;
-        gap = first-out k (t .gap) i h b;
-        c = first-out k (s .c) i h b;
-        p = first-out k (s .p) i h b;
-      }
+  task-out b = rw (le-ltb i k b) at task-at
 
   -- by cases
   pub by-task : {X : Type 0} → (i < k → SameTask (cutTable k t) t (cutState k s) s i → X) → (k ≤ i → NoTask (cutTable k t) (cutState k s) i → X) → X

@@ -7,7 +7,7 @@ use native.Mathlib.Omega.{arith}
 use lib.Dec.{ltb}
 use lib.ListN.{getD}
 use borrow.Author.Tests.{ltb-true, ltb-false}
-use Rattle.lists.specs.Lists.{eight, count}
+use Rattle.lists.specs.Lists.{eight}
 use Rattle.lists.proofs.Bools.{by-bool, clash, and-right}
 use Rattle.lists.proofs.Counts.{count-mono, count-same, any-same}
 use Rattle.lists.proofs.Fill.{eight-same}

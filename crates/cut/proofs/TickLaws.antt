@@ -1,5 +1,5 @@
 -- One tick of a cut table: what is true under every policy, and under P-GFP, where a job waits for the tasks before its own and no others. Assumes nothing.
-use Prim.Native.Nat.{ℕ, _-_, _≤_, _<_}
+use Prim.Native.Nat.{ℕ, _-_, _<_}
 use mathlib.Core.Path.{_≡_, refl, sym, ap, ap₂, _∙_}
 use mathlib.Core.Bool.{Bool, true, false, _&&_, _||_}
 use mathlib.Core.List.{List}
@@ -13,13 +13,13 @@ use Rattle.lists.proofs.Counts.{count-mono, count-same, any-false, none-any}
 use Rattle.lists.proofs.Fill.{eight-at, eight-same}
 use Rattle.jobs.specs.Job.{jobKey, jobAge}
 use Rattle.tasks.specs.State.{ready, notPreempted, started, keeps, late, improper}
-use Rattle.tasks.specs.Tick.{bit, illegal, releasedAt, released, key, age, before, ahead, runs, chosen, ranAt, fallen, ran, after, missed}
+use Rattle.tasks.specs.Tick.{illegal, releasedAt, released, key, age, before, ahead, runs, chosen, ranAt, fallen, ran, after, missed}
 use Rattle.tasks.specs.declared.state.State.{State}
 use Rattle.tasks.specs.declared.table.Table.{Table}
 use Rattle.tasks.proofs.Legal.{legal-bit, bits-legal}
 use Rattle.tasks.proofs.Proper.{Fine, proper-task, proper-kept, is-proper}
 use Rattle.cut.specs.Cut.{firstOf, cutTable, cutState}
-use Rattle.cut.proofs.CutLaws.{first-in, first-out, SameTask, NoTask, task-in, by-task, LowBits}
+use Rattle.cut.proofs.CutLaws.{first-in, first-out, SameTask, task-in, by-task, LowBits}
 
 -- ---- a task with the same numbers in two tables and two states
 

@@ -1,13 +1,12 @@
 -- Joined lists, under every policy (document 02, §9). Assumes nothing.
-use Prim.Native.Nat.{ℕ, _+_, _<_}
+use Prim.Native.Nat.{ℕ, _+_}
 use mathlib.Core.Path.{_≡_, refl, sym, ap, _∙_}
-use mathlib.Core.Bool.{Bool, true, false}
+use mathlib.Core.Bool.{false}
 use mathlib.Core.List.{List, [], _∷_, _++_}
 use native.Mathlib.Omega.{arith}
-use lib.Dec.{ltb, eqb}
+use lib.Dec.{ltb}
 use lib.ListN.{length}
-use borrow.Author.Tests.{ltb-true, ltb-false, ne-eqb}
-use Rattle.lists.specs.Lists.{pick}
+use borrow.Author.Tests.{ltb-false, ne-eqb}
 use Rattle.lists.proofs.Bools.{by-bool}
 use Rattle.tasks.specs.Table.{tableFault}
 use Rattle.tasks.specs.State.{start, improper}
@@ -21,7 +20,7 @@ use Rattle.tasks.specs.declared.play.Outcome.the-variants.{Kept, Missed}
 use Rattle.tasks.specs.declared.play.ReplayAnswer.{ReplayAnswer}
 use Rattle.tasks.specs.declared.play.ReplayAnswer.the-variants.{Played, Refused}
 use Rattle.tasks.specs.declared.play.Replayed.{Replayed}
-use Rattle.tasks.proofs.Played.{from-fault, from-improper, from-played, replayed-from}
+use Rattle.tasks.proofs.Played.{from-played, replayed-from}
 use Rattle.tasks.proofs.Joined.{kept, played-joined, played-proper}
 use Rattle.joined.specs.Raised.{raisedTick, raisedOutcome, raisedAnswer, raised}
 

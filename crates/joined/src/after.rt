@@ -1,11 +1,8 @@
 // A list played from a state, with a number of ticks before it.
 ghost use mathlib.Core.Path.{_≡_};
-ghost use Prim.Native.Nat.{_+_, _^_, _≤_, _<_};
-ghost use lib.Dec.{ltb};
-ghost use lib.ListN.{length};
-ghost use Rattle.lists.specs.Lists.{pick};
+ghost use Prim.Native.Nat.{_^_, _<_};
 ghost use Rattle.tasks.specs.Answers.{replayAnswer};
-ghost use Rattle.tasks.specs.Replay.{playedFrom, outcomeTick, replayTick};
+ghost use Rattle.tasks.specs.Replay.{playedFrom, outcomeTick};
 ghost use Rattle.joined.specs.Raised.{raisedTick, raisedOutcome};
 use tasks::Outcome;
 use tasks::ReplayAnswer;

@@ -1,12 +1,12 @@
 -- A part of a system: it refuses some masks, and any other does what it does in the whole. Where no list of the whole misses none of the part does, and the part
 -- has no more states. Assumes nothing.
-use mathlib.Core.Path.{_≡_, sym, _∙_}
+use mathlib.Core.Path.{_≡_, _∙_}
 use mathlib.Core.Logic.{_⊎_, ⊎-elim}
 use mathlib.Core.List.{List}
 use Prim.Native.Nat.{ℕ, suc, _≤_}
 use native.Mathlib.Omega.{arith}
-use Rattle.levels.specs.Verdict.{Tick, System, Misses, Within, Reached, Numbered, Counts, CountAtMost, SafeIf}
-use Rattle.levels.specs.Verdict.Tick.{Next, Missed, Refused}
+use Rattle.levels.specs.Verdict.{Tick, System, Misses, Within, Reached, Numbered, Counts, SafeIf}
+use Rattle.levels.specs.Verdict.Tick.{Next, Refused}
 use Rattle.levels.proofs.Replay.{reach-ind, miss-ind, within-start, within-next, within-more, reached, reached-calm}
 use Rattle.levels.proofs.Numbered.{no-more}
 

@@ -1,12 +1,11 @@
 -- The laws of the call that writes the sheet of a cut table: its refusals, and that the reader gives the cut table back. Assumes nothing.
-use Prim.Native.Nat.{ℕ, _+_, _^_, _≤_, _<_}
+use Prim.Native.Nat.{ℕ, _+_, _^_, _≤_}
 use mathlib.Core.Path.{_≡_, refl, sym, ap, _∙_}
-use mathlib.Core.List.{List, _++_}
-use native.Mathlib.Omega.{arith}
+use mathlib.Core.List.{List}
 use lib.ListN.{length, take, drop}
 use lib.Seq.{take-at}
 use borrow.Author.Tests.{lt-ltb, le-ltb}
-use Rattle.tasks.specs.Sheet.{acceptedAs, sheetOf, afterReading, sheetBytes, writeRefusal, writeOut, outIfRead}
+use Rattle.tasks.specs.Sheet.{acceptedAs, sheetOf, sheetBytes, writeRefusal, writeOut}
 use Rattle.tasks.specs.declared.table.Table.{Table}
 use Rattle.tasks.specs.declared.sheet.Reading.the-variants as Reading
 use Rattle.cut.specs.Cut.{cutTable, cutRefusal, cutOf}

@@ -3,7 +3,6 @@ use mathlib.Core.Path.{ap}
 use Rattle.tasks.specs.Replay.{outcomeTick}
 use Rattle.tasks.specs.declared.play.Outcome.the-variants.{Missed}
 use Rattle.joined.specs.Raised.{raisedOutcome}
-use native.Mathlib.Omega.{arith}
 use borrow.Author.Needs.{needs}
 use Rattle.joined.proofs.after.raised_outcome.Statement.{statement}
 use Rattle.joined.proofs.after.raised_outcome.Tie as tie

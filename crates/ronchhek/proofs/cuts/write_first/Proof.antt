@@ -1,5 +1,5 @@
 -- The table is not cut, or the cut table is written. Assumes nothing.
-use mathlib.Core.Path.{_≡_, ap, _∙_}
+use mathlib.Core.Path.{ap, _∙_}
 use Rattle.tasks.specs.Sheet.{writeOut}
 use Rattle.tasks.proofs.Answers.{sheet-reading}
 use Rattle.ronchhek.specs.Tables.{sheetNumber}

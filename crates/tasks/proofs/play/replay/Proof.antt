@@ -1,5 +1,5 @@
 -- From the start state, with no tick before. Assumes nothing.
-use mathlib.Core.Path.{_≡_, ap, _∙_}
+use mathlib.Core.Path.{ap, _∙_}
 use Rattle.tasks.specs.State.{start}
 use Rattle.tasks.specs.Replay.{playedFrom}
 use Rattle.tasks.proofs.Answers.{replay-is}
