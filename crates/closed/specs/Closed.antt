@@ -2,27 +2,27 @@
 -- This is the file to believe; the tick and the proper state are those of `tasks`.
 use Rattle.std.specs.Prelude.{◌≡◌, ◌↔◌, false, ◌||◌, List, [], ◌∷◌, ℕ, ◌/◌, ◌%◌, ◌<◌, eqb, ltb, length}
 use Rattle.lists.specs.Lists.{pick}
-use Rattle.tasks.specs.Table.{tableFault}
-use Rattle.tasks.specs.Sheet.{sheetOf, afterReading}
+use Rattle.tasks.specs.Table.{table_fault}
+use Rattle.tasks.specs.Sheet.{sheet_of, after_reading}
 use Rattle.tasks.specs.State.{start, improper}
 use Rattle.tasks.specs.Tick.{illegal, ticked}
 use Rattle.tasks.specs.declared.state.State.{State}
 use Rattle.tasks.specs.declared.table.Table.{Table}
 use Rattle.tasks.specs.declared.tick.TickAnswer.TheVariants as Answer
 use Rattle.levels.specs.Verdict.{Holds}
-use Rattle.states.specs.Bytes.{stateIn}
+use Rattle.states.specs.Bytes.{state_in}
 use Rattle.closed.specs.declared.check.ClosedAnswer.{ClosedAnswer}
 use Rattle.closed.specs.declared.check.ClosedAnswer.TheVariants as ClosedAnswer
 
 -- ---- the states of a file
 
 -- "The file is states of 16 bytes each, in any sequence, repeats allowed": how many
-unfoldable pub statesIn : List ℕ → ℕ
-statesIn file = length file / 16
+unfoldable pub states_in : List ℕ → ℕ
+states_in file = length file / 16
 
 -- the file contains s
 abbrev pub Contains : List ℕ → State → Type 0
-Contains file s = Holds (stateIn file) (statesIn file) s
+Contains file s = Holds (state_in file) (states_in file) s
 
 -- ---- closed
 
@@ -34,28 +34,28 @@ pub record Leads (t : Table) (file : List ℕ) (s : State) (m : ℕ) : Type 0 wh
 -- "it contains the start state, every state in it is proper, and every legal mask from each leads, without a miss, to a state in it"
 pub record Closed (t : Table) (file : List ℕ) : Type 0 where
   pub begins : Contains file start
-  pub proper : (i : ℕ) → i < statesIn file → improper t (stateIn file i) ≡ false
-  pub leads : (i m : ℕ) → i < statesIn file → m < 256 → illegal t (stateIn file i) m ≡ false → Leads t file (stateIn file i) m
+  pub proper : (i : ℕ) → i < states_in file → improper t (state_in file i) ≡ false
+  pub leads : (i m : ℕ) → i < states_in file → m < 256 → illegal t (state_in file i) m ≡ false → Leads t file (state_in file i) m
 
 -- ---- the answer
 
 -- "14, file empty or not a whole number of states", and 0 for a file that will do
-unfoldable pub fileRefusal : List ℕ → ℕ
-fileRefusal file = pick (eqb (length file) 0 || ltb 0 (length file % 16)) 14 0
+unfoldable pub file_refusal : List ℕ → ℕ
+file_refusal file = pick (eqb (length file) 0 || ltb 0 (length file % 16)) 14 0
 
 -- for a table: 4 to 7, then 14, "judged after the table"
-unfoldable pub tableFileRefusal : Table → List ℕ → ℕ
-tableFileRefusal t file = pick (ltb 0 (tableFault t)) (tableFault t) (fileRefusal file)
+unfoldable pub table_file_refusal : Table → List ℕ → ℕ
+table_file_refusal t file = pick (ltb 0 (table_fault t)) (table_fault t) (file_refusal file)
 
 -- for a sheet: 1 to 8, then 14
-unfoldable pub sheetFileRefusal : List ℕ → List ℕ → ℕ
-sheetFileRefusal sheet file = afterReading (sheetOf sheet).answer (fileRefusal file)
+unfoldable pub sheet_file_refusal : List ℕ → List ℕ → ℕ
+sheet_file_refusal sheet file = after_reading (sheet_of sheet).answer (file_refusal file)
 
 -- an answer in figures: kind 1 accepted, 2 No, 0 refused with the number
-unfoldable pub closedAnswer : ClosedAnswer → List ℕ
-closedAnswer ClosedAnswer.Accepted = 1 ∷ []
-closedAnswer ClosedAnswer.No = 2 ∷ []
-closedAnswer (ClosedAnswer.Refused r) = 0 ∷ r ∷ []
+unfoldable pub closed_answer : ClosedAnswer → List ℕ
+closed_answer ClosedAnswer.Accepted = 1 ∷ []
+closed_answer ClosedAnswer.No = 2 ∷ []
+closed_answer (ClosedAnswer.Refused r) = 0 ∷ r ∷ []
 
 -- the answer to a file that has this refusal, 0 for none: "accepted exactly when" it is closed; "Any other nonempty file of whole states, also
 -- one with a state that isn't proper, is answered No"
@@ -66,7 +66,7 @@ pub record Judged (refusal : ℕ) (t : Table) (file : List ℕ) (a : List ℕ) :
 
 -- the answer for a table, and for a sheet's table
 abbrev pub TableJudged : Table → List ℕ → List ℕ → Type 0
-TableJudged t file a = Judged (tableFileRefusal t file) t file a
+TableJudged t file a = Judged (table_file_refusal t file) t file a
 
 abbrev pub SheetJudged : List ℕ → List ℕ → List ℕ → Type 0
-SheetJudged sheet file a = Judged (sheetFileRefusal sheet file) (sheetOf sheet).table file a
+SheetJudged sheet file a = Judged (sheet_file_refusal sheet file) (sheet_of sheet).table file a

@@ -1,8 +1,8 @@
 // The public calls: whether a file of states is closed, for a table and for a sheet.
 ghost use Rattle.std.specs.Prelude.{◌≡◌, ◌<◌, length};
-ghost use Rattle.tasks.specs.Table.{tableFault};
-ghost use Rattle.tasks.specs.Ticker.{tickerOf};
-ghost use Rattle.closed.specs.Closed.{fileRefusal, closedAnswer, Judged, TableJudged, SheetJudged};
+ghost use Rattle.tasks.specs.Table.{table_fault};
+ghost use Rattle.tasks.specs.Ticker.{ticker_of};
+ghost use Rattle.closed.specs.Closed.{file_refusal, closed_answer, Judged, TableJudged, SheetJudged};
 ghost use Rattle.closed.specs.Keeping.{Given, SoundIs, ClosedIs};
 
 use crate::file::scan;
@@ -21,7 +21,7 @@ pub enum ClosedAnswer {
 
 // Whether every state of the file is proper, and no mask misses from any.
 fn all_sound(t: Table, ticker: Ticker, file: &[u8], n: usize) -> bool
-    requires { Given t file.now n × (ticker ≡ tickerOf t) }
+    requires { Given t file.now n × (ticker ≡ ticker_of t) }
     ensures { SoundIs t file.now result }
 {
     let mut i: usize = 0;
@@ -94,8 +94,8 @@ fn closed_sized(t: Table, file: &[u8], n: usize) -> bool
 
 // The answer for a valid table.
 fn closed_valid(t: Table, file: &[u8]) -> ClosedAnswer
-    requires { tableFault t ≡ 0 }
-    ensures { Judged (fileRefusal file.now) t file.now (closedAnswer result) }
+    requires { table_fault t ≡ 0 }
+    ensures { Judged (file_refusal file.now) t file.now (closed_answer result) }
 {
     let length = file.len();
     if length == 0 {
@@ -113,7 +113,7 @@ fn closed_valid(t: Table, file: &[u8]) -> ClosedAnswer
 
 // Whether a file of states is closed under the ticks of a table.
 pub fn closed_table(t: Table, file: &[u8]) -> ClosedAnswer
-    ensures { TableJudged t file.now (closedAnswer result) }
+    ensures { TableJudged t file.now (closed_answer result) }
 {
     let fault = t.fault();
     if 0 < fault {
@@ -124,7 +124,7 @@ pub fn closed_table(t: Table, file: &[u8]) -> ClosedAnswer
 
 // .. under the ticks of a sheet's table.
 pub fn closed_sheet(sheet: &[u8], file: &[u8]) -> ClosedAnswer
-    ensures { SheetJudged sheet.now file.now (closedAnswer result) }
+    ensures { SheetJudged sheet.now file.now (closed_answer result) }
 {
     let read = tasks::read_sheet(sheet);
     let answer = read.answer;

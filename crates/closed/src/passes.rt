@@ -6,10 +6,10 @@ ghost use Rattle.std.specs.Prelude.{◌≡◌, ◌+◌, ◌-◌, ◌*◌, ◌<�
 ghost use Rattle.std.specs.Int.Bits.{bit_and};
 ghost use Rattle.lists.specs.Lists.{pick};
 ghost use Rattle.tasks.specs.State.{improper};
-ghost use Rattle.tasks.specs.Ticker.{tickedBy, tickerOf};
+ghost use Rattle.tasks.specs.Ticker.{ticked_by, ticker_of};
 ghost use Rattle.tasks.specs.Words.{state_of};
-ghost use Rattle.states.specs.Bytes.{stateIn};
-ghost use Rattle.closed.specs.Keeping.{classOf, landing, Due, RowOf, Between, Every, InsideIs, Given, Ready, AfterWaits, RowWaits};
+ghost use Rattle.states.specs.Bytes.{state_in};
+ghost use Rattle.closed.specs.Keeping.{class_of, landing, Due, RowOf, Between, Every, InsideIs, Given, Ready, AfterWaits, RowWaits};
 
 use crate::cells::{clear, put};
 use crate::file::gap_at;
@@ -100,7 +100,7 @@ fn distance(file: &[u8], split: Split, i: usize) -> usize
 // The class of a key, of so many. One class needs no hash.
 fn class_of(key: Key, classes: usize) -> usize
     requires { 0 < classes }
-    ensures { result ≡ classOf classes key }
+    ensures { result ≡ class_of classes key }
 {
     if classes == 1 {
         return 0;
@@ -127,7 +127,7 @@ fn put_after(
     mask: u8,
 ) -> usize
     requires { (4 * count + 4 ≤ length pending.old) × (0 < pass.classes) }
-    ensures { (result ≤ count + 1) × AfterWaits pass due (state_of (tickedBy ticker state mask)) pending.old count pending.new result }
+    ensures { (result ≤ count + 1) × AfterWaits pass due (state_of (ticked_by ticker state mask)) pending.old count pending.new result }
 {
     if !due {
         return count;
@@ -152,7 +152,7 @@ fn row_pending(
     pass: Pass,
     i: usize,
 ) -> usize
-    requires { Given t file.now n × (ticker ≡ tickerOf t) × (0 < pass.classes) × (split.task < 8) × (i < n) × (improper t (stateIn file.now i) ≡ false) × (4 * count + 1024 ≤ length pending.old) }
+    requires { Given t file.now n × (ticker ≡ ticker_of t) × (0 < pass.classes) × (split.task < 8) × (i < n) × (improper t (state_in file.now i) ≡ false) × (4 * count + 1024 ≤ length pending.old) }
     ensures { (result ≤ count + 256) × RowWaits t file.now n (RowOf t file.now split pass i) pending.old count pending.new result }
 {
     let v = words_in(file, i);

@@ -2,10 +2,10 @@
 ghost use Rattle.std.specs.Prelude.{◌≡◌};
 ghost use Rattle.lists.specs.Lists.{count};
 ghost use Rattle.tasks.specs.State.{started};
-ghost use Rattle.tasks.specs.Table.{tableFault};
-ghost use Rattle.tasks.specs.Ticker.{tickerOf};
+ghost use Rattle.tasks.specs.Table.{table_fault};
+ghost use Rattle.tasks.specs.Ticker.{ticker_of};
 ghost use Rattle.tasks.specs.Words.{state_of};
-ghost use Rattle.closed.specs.Keeping.{StateIs, workAbove, gapAbove, exceeds};
+ghost use Rattle.closed.specs.Keeping.{StateIs, work_above, gap_above, exceeds};
 
 use states::full_misses;
 use tasks::{Table, Ticker, gap_in, misses, tight, work_in};
@@ -13,7 +13,7 @@ use tasks::{Table, Ticker, gap_in, misses, tight, work_in};
 // How many tasks of the state in the words have c above C. These are counts, where tests would do: the compiler makes vectors
 // of them also where a branch follows.
 fn count_work_above(t: Table, v: [u16; 8]) -> u8
-    ensures { result ≡ count 8 (workAbove t (state_of v)) }
+    ensures { result ≡ count 8 (work_above t (state_of v)) }
 {
     let mut n: u8 = 0;
     let mut i: usize = 0;
@@ -28,7 +28,7 @@ fn count_work_above(t: Table, v: [u16; 8]) -> u8
 
 // How many have p above P.
 fn count_gap_above(t: Table, v: [u16; 8]) -> u8
-    ensures { result ≡ count 8 (gapAbove t (state_of v)) }
+    ensures { result ≡ count 8 (gap_above t (state_of v)) }
 {
     let mut n: u8 = 0;
     let mut i: usize = 0;
@@ -74,7 +74,7 @@ fn exceeds(t: Table, v: [u16; 8]) -> bool
 
 // Whether the state in the words is proper and no mask misses from it. A late job is tight, so where none is tight none is late.
 pub(crate) fn is_sound(t: Table, ticker: Ticker, v: [u16; 8]) -> bool
-    requires { (tableFault t ≡ 0) × (ticker ≡ tickerOf t) }
+    requires { (table_fault t ≡ 0) × (ticker ≡ ticker_of t) }
     ensures { StateIs t (state_of v) result }
 {
     if exceeds(t, v) {

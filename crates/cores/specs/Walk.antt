@@ -26,12 +26,12 @@ unfoldable pub rank : List ℕ → ℕ → ℕ → ℕ
 rank places n i = count n (leads places i)
 
 -- how many jobs keep their processors
-unfoldable pub keptCount : List ℕ → ℕ
-keptCount places = count 8 (under places 1)
+unfoldable pub kept_count : List ℕ → ℕ
+kept_count places = count 8 (under places 1)
 
 -- how many jobs are ready, those that keep their processors among them
-unfoldable pub readyCount : List ℕ → ℕ
-readyCount places = count 8 (under places 65534)
+unfoldable pub ready_count : List ℕ → ℕ
+ready_count places = count 8 (under places 65534)
 
 -- task i is one of those chosen with c processors: it is ready, and its job keeps its processor or has fewer than c tasks before it
 unfoldable pub taken : List ℕ → ℕ → ℕ → Bool
@@ -44,16 +44,16 @@ served places c = eight (λ i. pick (taken places c i) 1 0)
 -- ---- a walk
 
 -- how many tasks are chosen
-unfoldable pub tasksIn : List ℕ → ℕ
-tasksIn run = count 8 (λ i. eqb (get_or run i 0) 1)
+unfoldable pub tasks_in : List ℕ → ℕ
+tasks_in run = count 8 (λ i. eqb (get_or run i 0) 1)
 
 -- what the number given out never exceeds: m, or, where more than m jobs keep their processors, which no proper state has, their number
 unfoldable pub most_of : List ℕ → ℕ → ℕ
-most_of places m = pick (ltb m (keptCount places)) (keptCount places) m
+most_of places m = pick (ltb m (kept_count places)) (kept_count places) m
 
 -- a walk with m processors has chosen the tasks in `run` and given `given` processors out: the tasks are the first in the order of the places; the
 -- number is that of the tasks chosen so far; and it is at most m, or what a state that is not proper makes of it
 pub record Walked (places : List ℕ) (m : ℕ) (run : List ℕ) (given : ℕ) : Type 0 where
   pub first : run ≡ served places given
-  pub number : given ≡ tasksIn run
+  pub number : given ≡ tasks_in run
   pub most : given ≤ most_of places m

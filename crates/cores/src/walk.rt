@@ -1,7 +1,7 @@
 // A walk through the ready tasks in the order of their places that gives each a processor while one is left, and carries the number given out.
 ghost use Rattle.std.specs.Prelude.{◌≡◌, ◌+◌, ◌<◌, ◌≤◌, get_or, ◌&&◌, eqb};
 ghost use Rattle.lists.specs.Lists.{eight, pick, count};
-ghost use Rattle.cores.specs.Walk.{under, capped, sooner, rank, keptCount, readyCount, served, Walked};
+ghost use Rattle.cores.specs.Walk.{under, capped, sooner, rank, kept_count, ready_count, served, Walked};
 
 // A walk on its way: 1 for each task that has been given a processor and 0 for the others, and how many have been given out.
 #[derive(Drop)]
@@ -130,7 +130,7 @@ fn with_rank(ranks: [u16; 8], run: [u16; 8], rank: u16) -> [u16; 8]
 
 // The start of a walk: the jobs that keep their processors, and their number.
 fn assign_kept(places: [u16; 8], m: u16) -> Walk
-    ensures { Walked places m result.run result.count × (result.count ≡ keptCount places) }
+    ensures { Walked places m result.run result.count × (result.count ≡ kept_count places) }
 {
     Walk {
         run: below(places, 1),
@@ -140,7 +140,7 @@ fn assign_kept(places: [u16; 8], m: u16) -> Walk
 
 // A step: the next processor goes to the task that has as many before it as have been given out.
 fn assign_next(places: [u16; 8], ranks: [u16; 8], m: u16, walk: Walk) -> Walk
-    requires { (ranks ≡ eight (rank places 8)) × Walked places m walk.run walk.count × (walk.count < m) × (walk.count < readyCount places) }
+    requires { (ranks ≡ eight (rank places 8)) × Walked places m walk.run walk.count × (walk.count < m) × (walk.count < ready_count places) }
     ensures { Walked places m result.run result.count × (result.count ≡ walk.count + 1) }
 {
     let run = walk.run;
@@ -153,7 +153,7 @@ fn assign_next(places: [u16; 8], ranks: [u16; 8], m: u16, walk: Walk) -> Walk
 
 // A step that ends a walk: all that wait are given a processor, where there is one for each.
 fn assign_rest(places: [u16; 8], m: u16, waiting: u16, walk: Walk) -> Walk
-    requires { (walk.count + waiting ≡ readyCount places) × (walk.count + waiting ≤ m) }
+    requires { (walk.count + waiting ≡ ready_count places) × (walk.count + waiting ≤ m) }
     ensures { Walked places m result.run result.count × (result.count ≡ walk.count + waiting) }
 {
     let count = walk.count;

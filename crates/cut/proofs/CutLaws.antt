@@ -8,22 +8,22 @@ use lib.ListN.{get_or}
 use borrow.Author.Tests.{lt-ltb, le-ltb, ltb-true, ltb-false}
 use Rattle.lists.specs.Lists.{pick}
 use Rattle.lists.proofs.Bools.{by_bool}
-use Rattle.lists.proofs.Digits.{low_digit, high_digit, low-low}
-use Rattle.lists.proofs.Fill.{eight-at, eight-same, front_at, front-front}
+use Rattle.lists.proofs.Digits.{low_digit, high_digit, low_low}
+use Rattle.lists.proofs.Fill.{eight_at, eight_same, front_at, front_front}
 use Rattle.tasks.specs.State.{start}
 use Rattle.tasks.specs.Tick.{bit}
 use Rattle.tasks.specs.declared.state.State.{State}
 use Rattle.tasks.specs.declared.table.Table.{Table}
-use Rattle.cut.specs.Cut.{firstOf, cutTable, cutState, cutMask, cutList}
+use Rattle.cut.specs.Cut.{first_of, cut_table, cut_state, cut_mask, cut_list}
 
 -- ---- each task
 
 -- the numbers of the first k tasks stay
-pub first-in : (k : ℕ) (l : List ℕ) (i : ℕ) → i < 8 → i < k → get_or (firstOf k l) i 0 ≡ get_or l i 0
-first-in k l i h b = front_at k (λ j. get_or l j 0) i h ∙ ap (λ x. pick x (get_or l i 0) 0) (lt-ltb i k b)
+pub first_in : (k : ℕ) (l : List ℕ) (i : ℕ) → i < 8 → i < k → get_or (first_of k l) i 0 ≡ get_or l i 0
+first_in k l i h b = front_at k (λ j. get_or l j 0) i h ∙ ap (λ x. pick x (get_or l i 0) 0) (lt-ltb i k b)
 
 -- all others are 0
-pub first_out : (k : ℕ) (l : List ℕ) (i : ℕ) → i < 8 → k ≤ i → get_or (firstOf k l) i 0 ≡ 0
+pub first_out : (k : ℕ) (l : List ℕ) (i : ℕ) → i < 8 → k ≤ i → get_or (first_of k l) i 0 ≡ 0
 first_out k l i h b = front_at k (λ j. get_or l j 0) i h ∙ ap (λ x. pick x (get_or l i 0) 0) (le-ltb i k b)
 
 -- the numbers of task i in a table and a state
@@ -44,9 +44,9 @@ NoTask t s i = TaskHas t s i 0 0 0 0 0
 
 module _ (k : ℕ) (t : Table) (s : State) (i : ℕ) (h : i < 8) where
   task-at :
-      TaskHas (cutTable k t) (cutState k s) i (pick (ltb i k) (get_or t.work i 0) 0) (pick (ltb i k) (get_or t.deadline i 0) 0)
+      TaskHas (cut_table k t) (cut_state k s) i (pick (ltb i k) (get_or t.work i 0) 0) (pick (ltb i k) (get_or t.deadline i 0) 0)
       (pick (ltb i k) (get_or t.gap i 0) 0) (pick (ltb i k) (get_or s.c i 0) 0) (pick (ltb i k) (get_or s.p i 0) 0)
-  unfolding cutTable cutState
+  unfolding cut_table cut_state
   task-at =
       record {
         work = front_at k (λ j. get_or t.work j 0) i h;
@@ -57,19 +57,19 @@ module _ (k : ℕ) (t : Table) (s : State) (i : ℕ) (h : i < 8) where
       }
 
   -- the first k tasks stay as they are
-  pub task-in : i < k → SameTask (cutTable k t) t (cutState k s) s i
-  task-in b = rw (lt-ltb i k b) at task-at
+  pub task_in : i < k → SameTask (cut_table k t) t (cut_state k s) s i
+  task_in b = rw (lt-ltb i k b) at task-at
 
   -- no other is left
-  pub task-out : k ≤ i → NoTask (cutTable k t) (cutState k s) i
-  task-out b = rw (le-ltb i k b) at task-at
+  pub task_out : k ≤ i → NoTask (cut_table k t) (cut_state k s) i
+  task_out b = rw (le-ltb i k b) at task-at
 
   -- by cases
-  pub by-task : {X : Type 0} → (i < k → SameTask (cutTable k t) t (cutState k s) s i → X) → (k ≤ i → NoTask (cutTable k t) (cutState k s) i → X) → X
-  by-task f g =
+  pub by_task : {X : Type 0} → (i < k → SameTask (cut_table k t) t (cut_state k s) s i → X) → (k ≤ i → NoTask (cut_table k t) (cut_state k s) i → X) → X
+  by_task f g =
       by_bool (ltb i k)
-      (λ e. let b = ltb-true i k e in f b (task-in b))
-      (λ e. let b = ltb-false i k e in g b (task-out b))
+      (λ e. let b = ltb-true i k e in f b (task_in b))
+      (λ e. let b = ltb-false i k e in g b (task_out b))
 
 -- ---- each bit
 
@@ -79,8 +79,8 @@ pub record LowBits (k low mask : ℕ) : Type 0 where
   pub above : (i : ℕ) → i < 8 → k ≤ i → bit low i ≡ false
 
 -- LAW: so has a cut mask
-pub low_bits : (k mask : ℕ) → LowBits k (cutMask k mask) mask
-unfolding cutMask
+pub low_bits : (k mask : ℕ) → LowBits k (cut_mask k mask) mask
+unfolding cut_mask
 low_bits k mask =
     record {
       below = λ i h b. ap (λ x. eqb x 1) (low_digit mask k i b);
@@ -90,43 +90,43 @@ low_bits k mask =
 -- ---- cut twice
 
 module _ (k j : ℕ) (less : j ≤ k) where
-  first-first : (l : List ℕ) → firstOf j (firstOf k l) ≡ firstOf j l
-  first-first l = front-front j k (λ i. get_or l i 0) less
+  first_first : (l : List ℕ) → first_of j (first_of k l) ≡ first_of j l
+  first_first l = front_front j k (λ i. get_or l i 0) less
 
   -- THEOREM: cutting to k and then to j ≤ k is cutting to j: a table, a state, a mask, a list
-  pub table-again : (t : Table) → cutTable j (cutTable k t) ≡ cutTable j t
-  unfolding cutTable
-  table-again t =
+  pub table_again_lem : (t : Table) → cut_table j (cut_table k t) ≡ cut_table j t
+  unfolding cut_table
+  table_again_lem t =
       λ x.
       record {
         policy = t.policy;
         m = t.m;
         n = j;
-        work = first-first t.work x;
-        deadline = first-first t.deadline x;
-        gap = first-first t.gap x;
+        work = first_first t.work x;
+        deadline = first_first t.deadline x;
+        gap = first_first t.gap x;
       }
 
-  pub state-again : (s : State) → cutState j (cutState k s) ≡ cutState j s
-  unfolding cutState
-  state-again s = λ x. record { c = first-first s.c x; p = first-first s.p x }
+  pub state_again : (s : State) → cut_state j (cut_state k s) ≡ cut_state j s
+  unfolding cut_state
+  state_again s = λ x. record { c = first_first s.c x; p = first_first s.p x }
 
-  pub mask-again : (mask : ℕ) → cutMask j (cutMask k mask) ≡ cutMask j mask
-  unfolding cutMask
-  mask-again mask = low-low mask k j less
+  pub mask_again : (mask : ℕ) → cut_mask j (cut_mask k mask) ≡ cut_mask j mask
+  unfolding cut_mask
+  mask_again mask = low_low mask k j less
 
-  pub list-again : (l : List ℕ) → cutList j (cutList k l) ≡ cutList j l
-  unfolding cutList
-  list-again [] = refl
-  list-again (mask ∷ masks) = ap₂ (λ x l. x ∷ l) (mask-again mask) (list-again masks)
+  pub list_again : (l : List ℕ) → cut_list j (cut_list k l) ≡ cut_list j l
+  unfolding cut_list
+  list_again [] = refl
+  list_again (mask ∷ masks) = ap₂ (λ x l. x ∷ l) (mask_again mask) (list_again masks)
 
 -- ---- the start state
 
-zeros-cut : (k : ℕ) → firstOf k start.c ≡ start.c
-zeros-cut k =
-    eight-same (λ i. pick (ltb i k) (get_or start.c i 0) 0) (λ i. 0)
-    (λ i h. by_bool (ltb i k) (λ e. rw e (eight-at 0 (λ j. 0) i h)) (λ e. rw e))
+zeros_cut : (k : ℕ) → first_of k start.c ≡ start.c
+zeros_cut k =
+    eight_same (λ i. pick (ltb i k) (get_or start.c i 0) 0) (λ i. 0)
+    (λ i h. by_bool (ltb i k) (λ e. rw e (eight_at 0 (λ j. 0) i h)) (λ e. rw e))
 
-pub start-cut : (k : ℕ) → cutState k start ≡ start
-unfolding cutState
-start-cut k = λ x. record { c = zeros-cut k x; p = zeros-cut k x }
+pub start_cut : (k : ℕ) → cut_state k start ≡ start
+unfolding cut_state
+start_cut k = λ x. record { c = zeros_cut k x; p = zeros_cut k x }

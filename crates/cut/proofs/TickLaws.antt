@@ -9,32 +9,32 @@ use lib.ListN.{get_or}
 use borrow.Author.Tests.{lt-ltb, le-ltb, ltb-true, ltb-false}
 use Rattle.lists.specs.Lists.{eight, pick, count}
 use Rattle.lists.proofs.Bools.{by_bool, clash, and_right}
-use Rattle.lists.proofs.Counts.{count-mono, count_same, any_false, none_any}
-use Rattle.lists.proofs.Fill.{eight-at, eight-same}
-use Rattle.jobs.specs.Job.{jobKey, jobAge}
-use Rattle.tasks.specs.State.{ready, notPreempted, started, keeps, late, improper}
-use Rattle.tasks.specs.Tick.{illegal, releasedAt, released, key, age, before, ahead, runs, chosen, ranAt, fallen, ran, after, missed}
+use Rattle.lists.proofs.Counts.{count_mono, count_same, any_false, none_any}
+use Rattle.lists.proofs.Fill.{eight_at, eight_same}
+use Rattle.jobs.specs.Job.{job_key, job_age}
+use Rattle.tasks.specs.State.{ready, not_preempted, started, keeps, late, improper}
+use Rattle.tasks.specs.Tick.{illegal, released_at, released, key, age, before, ahead, runs, chosen, ran_at, fallen, ran, after, missed}
 use Rattle.tasks.specs.declared.state.State.{State}
 use Rattle.tasks.specs.declared.table.Table.{Table}
-use Rattle.tasks.proofs.Legal.{legal-bit, bits-legal}
-use Rattle.tasks.proofs.Proper.{Fine, proper-task, proper-kept, is-proper}
-use Rattle.cut.specs.Cut.{firstOf, cutTable, cutState}
-use Rattle.cut.proofs.CutLaws.{first-in, first_out, SameTask, task-in, by-task, LowBits}
+use Rattle.tasks.proofs.Legal.{legal_bit, bits_legal}
+use Rattle.tasks.proofs.Proper.{Fine, proper_task, proper_kept, is_proper}
+use Rattle.cut.specs.Cut.{first_of, cut_table, cut_state}
+use Rattle.cut.proofs.CutLaws.{first_in, first_out, SameTask, task_in, by_task, LowBits}
 
 -- ---- a task with the same numbers in two tables and two states
 
 module _ (t u : Table) (s v : State) (i : ℕ) (e : SameTask t u s v i) where
-  pub same-late : late t s i ≡ late u v i
+  pub same_late : late t s i ≡ late u v i
   unfolding late
-  same-late = rw (e.deadline, e.gap, e.c, e.p)
+  same_late = rw (e.deadline, e.gap, e.c, e.p)
 
-  pub same-started : started t s i ≡ started u v i
+  pub same_started : started t s i ≡ started u v i
   unfolding started
-  same-started = rw (e.work, e.c)
+  same_started = rw (e.work, e.c)
 
-  pub same-keeps : t.policy ≡ u.policy → keeps t s i ≡ keeps u v i
+  pub same_keeps : t.policy ≡ u.policy → keeps t s i ≡ keeps u v i
   unfolding keeps
-  same-keeps p = ap₂ (λ x b. (eqb x 0 || eqb x 2) && b) p same-started
+  same_keeps p = ap₂ (λ x b. (eqb x 0 || eqb x 2) && b) p same_started
 
   pub same_runs : keeps t s i ≡ keeps u v i → count 8 (ahead t s i) ≡ count 8 (ahead u v i) → t.m ≡ u.m → runs t s i ≡ runs u v i
   unfolding runs
@@ -43,166 +43,166 @@ module _ (t u : Table) (s v : State) (i : ℕ) (e : SameTask t u s v i) where
 -- ---- a task with no job
 
 module _ (t : Table) (s : State) (i : ℕ) (e : get_or s.c i 0 ≡ 0) where
-  pub none-late : late t s i ≡ false
+  pub none_late : late t s i ≡ false
   unfolding late
-  none-late = rw e
+  none_late = rw e
 
-  pub none-started : started t s i ≡ false
+  pub none_started : started t s i ≡ false
   unfolding started
-  none-started = rw e
+  none_started = rw e
 
   pub none_runs : runs t s i ≡ false
   unfolding runs
   none_runs = rw e
 
 module _ (k : ℕ) (t : Table) where
-  pub cut-n : (cutTable k t).n ≡ k
-  unfolding cutTable
-  cut-n = refl
+  pub cut_n : (cut_table k t).n ≡ k
+  unfolding cut_table
+  cut_n = refl
 
-  pub cut-m : (cutTable k t).m ≡ t.m
-  unfolding cutTable
-  cut-m = refl
+  pub cut_m : (cut_table k t).m ≡ t.m
+  unfolding cut_table
+  cut_m = refl
 
-  pub cut-policy : (cutTable k t).policy ≡ t.policy
-  unfolding cutTable
-  cut-policy = refl
+  pub cut_policy : (cut_table k t).policy ≡ t.policy
+  unfolding cut_table
+  cut_policy = refl
 
 -- ---- under every policy
 
 module _ (k : ℕ) (t : Table) (s : State) where
   -- LAW: where no job of the whole is late, none of the cut is
-  pub cut-missed : missed t s ≡ false → missed (cutTable k t) (cutState k s) ≡ false
+  pub cut_missed : missed t s ≡ false → missed (cut_table k t) (cut_state k s) ≡ false
   unfolding missed
-  cut-missed e =
-      none_any (late (cutTable k t) (cutState k s)) 8
+  cut_missed e =
+      none_any (late (cut_table k t) (cut_state k s)) 8
       (λ i h.
-      by-task k t s i h
-      (λ b same. same-late (cutTable k t) t (cutState k s) s i same ∙ any_false (late t s) 8 i e h)
-      (λ b none. none-late (cutTable k t) (cutState k s) i none.c))
+      by_task k t s i h
+      (λ b same. same_late (cut_table k t) t (cut_state k s) s i same ∙ any_false (late t s) 8 i e h)
+      (λ b none. none_late (cut_table k t) (cut_state k s) i none.c))
 
-  keeps-too : (i : ℕ) → i < 8 → keeps (cutTable k t) (cutState k s) i ≡ true → keeps t s i ≡ true
+  keeps_too : (i : ℕ) → i < 8 → keeps (cut_table k t) (cut_state k s) i ≡ true → keeps t s i ≡ true
   unfolding keeps
-  keeps-too i h e =
-      by-task k t s i h
-      (λ b same. sym (same-keeps (cutTable k t) t (cutState k s) s i same (cut-policy k t)) ∙ e)
-      (λ b none. clash (and_right (notPreempted (cutTable k t)) (started (cutTable k t) (cutState k s) i) e) (none-started (cutTable k t) (cutState k s) i none.c))
+  keeps_too i h e =
+      by_task k t s i h
+      (λ b same. sym (same_keeps (cut_table k t) t (cut_state k s) s i same (cut_policy k t)) ∙ e)
+      (λ b none. clash (and_right (not_preempted (cut_table k t)) (started (cut_table k t) (cut_state k s) i) e) (none_started (cut_table k t) (cut_state k s) i none.c))
 
-  cut-fine : (i : ℕ) → i < 8 → Fine t s i → Fine (cutTable k t) (cutState k s) i
-  cut-fine i h f =
-      by-task k t s i h
+  cut_fine : (i : ℕ) → i < 8 → Fine t s i → Fine (cut_table k t) (cut_state k s) i
+  cut_fine i h f =
+      by_task k t s i h
       (λ b same. record {
         work = rw (same.c, same.work) f.work;
         gap = rw (same.p, same.gap) f.gap;
-        kept = same-late (cutTable k t) t (cutState k s) s i same ∙ f.kept;
-        past = λ q. absurd (omega (arith, cut-n k t));
+        kept = same_late (cut_table k t) t (cut_state k s) s i same ∙ f.kept;
+        past = λ q. absurd (omega (arith, cut_n k t));
       })
       (λ b none. record {
         work = rw (none.c, none.work) (omega arith);
         gap = rw (none.p, none.gap) (omega arith);
-        kept = none-late (cutTable k t) (cutState k s) i none.c;
+        kept = none_late (cut_table k t) (cut_state k s) i none.c;
         past = λ q. (none.c, none.p);
       })
 
   -- LAW: the cut of a proper state is proper in the cut table
-  pub cut-proper : improper t s ≡ false → improper (cutTable k t) (cutState k s) ≡ false
-  cut-proper proper =
-      is-proper (cutTable k t) (cutState k s) (λ i h. cut-fine i h (proper-task t s proper i h))
-      (omega (arith, cut-m k t, proper-kept t s proper, count-mono (keeps (cutTable k t) (cutState k s)) (keeps t s) 8 keeps-too))
+  pub cut_proper : improper t s ≡ false → improper (cut_table k t) (cut_state k s) ≡ false
+  cut_proper proper =
+      is_proper (cut_table k t) (cut_state k s) (λ i h. cut_fine i h (proper_task t s proper i h))
+      (omega (arith, cut_m k t, proper_kept t s proper, count_mono (keeps (cut_table k t) (cut_state k s)) (keeps t s) 8 keeps_too))
 
   -- LAW: a legal mask's low bits are legal in the cut
-  pub cut-legal : {low : ℕ} (mask : ℕ) → LowBits k low mask → illegal t s mask ≡ false → illegal (cutTable k t) (cutState k s) low ≡ false
-  cut-legal {low} mask bits legal =
-      bits-legal (cutTable k t) (cutState k s) low
+  pub cut_legal : {low : ℕ} (mask : ℕ) → LowBits k low mask → illegal t s mask ≡ false → illegal (cut_table k t) (cut_state k s) low ≡ false
+  cut_legal {low} mask bits legal =
+      bits_legal (cut_table k t) (cut_state k s) low
       (λ i h e.
-      by-task k t s i h
+      by_task k t s i h
       (λ b same.
-      let l = legal-bit t s mask i h legal (sym (bits.below i h b) ∙ e) in
-      (rw (cut-n k t) b, same.p ∙ l.1))
+      let l = legal_bit t s mask i h legal (sym (bits.below i h b) ∙ e) in
+      (rw (cut_n k t) b, same.p ∙ l.1))
       (λ b none. clash e (bits.above i h b)))
 
   -- LAW: the release of the low bits in the cut is the cut of the release
   module _ {low mask : ℕ} (bits : LowBits k low mask) where
-    first-released : (full old : List ℕ) → eight (releasedAt (firstOf k full) (firstOf k old) low) ≡ firstOf k (eight (releasedAt full old mask))
-    unfolding releasedAt
-    first-released full old =
-        eight-same (releasedAt (firstOf k full) (firstOf k old) low) (λ i. pick (ltb i k) (get_or (eight (releasedAt full old mask)) i 0) 0)
+    first_released : (full old : List ℕ) → eight (released_at (first_of k full) (first_of k old) low) ≡ first_of k (eight (released_at full old mask))
+    unfolding released_at
+    first_released full old =
+        eight_same (released_at (first_of k full) (first_of k old) low) (λ i. pick (ltb i k) (get_or (eight (released_at full old mask)) i 0) 0)
         (λ i h.
         by_bool (ltb i k)
         (λ e.
         let b = ltb-true i k e in
-        rw (e, first-in k full i h b, first-in k old i h b, bits.below i h b) (sym (eight-at 0 (releasedAt full old mask) i h)))
+        rw (e, first_in k full i h b, first_in k old i h b, bits.below i h b) (sym (eight_at 0 (released_at full old mask) i h)))
         (λ e.
         let b = ltb-false i k e in
         rw (e, bits.above i h b, first_out k old i h b)))
 
-    pub cut-released : released (cutTable k t) (cutState k s) low ≡ cutState k (released t s mask)
-    unfolding released cutTable cutState
-    cut-released = λ x. record { c = first-released t.work s.c x; p = first-released t.gap s.p x }
+    pub cut_released : released (cut_table k t) (cut_state k s) low ≡ cut_state k (released t s mask)
+    unfolding released cut_table cut_state
+    cut_released = λ x. record { c = first_released t.work s.c x; p = first_released t.gap s.p x }
 
 -- ---- under P-GFP
 
-and-false : (a : Bool) → a && false ≡ false
-and-false true = refl
-and-false false = refl
+and_false : (a : Bool) → a && false ≡ false
+and_false true = refl
+and_false false = refl
 
 module _ (t : Table) (fixed : t.policy ≡ 1) (s : State) where
   -- LAW: no job keeps its processor, and the task number alone decides
-  pub fixed-keeps : (i : ℕ) → keeps t s i ≡ false
+  pub fixed_keeps : (i : ℕ) → keeps t s i ≡ false
   unfolding keeps
-  fixed-keeps i = rw fixed
+  fixed_keeps i = rw fixed
 
-  pub fixed-ahead : (i j : ℕ) → ahead t s i j ≡ ready s j && ltb j i
-  unfolding ahead before key age jobKey jobAge
-  fixed-ahead i j = rw (fixed-keeps j, fixed)
+  pub fixed_ahead : (i j : ℕ) → ahead t s i j ≡ ready s j && ltb j i
+  unfolding ahead before key age job_key job_age
+  fixed_ahead i j = rw (fixed_keeps j, fixed)
 
 module _ (k : ℕ) (t : Table) (fixed : t.policy ≡ 1) (s : State) where
-  cut-fixed : (cutTable k t).policy ≡ 1
-  cut-fixed = cut-policy k t ∙ fixed
+  cut_fixed : (cut_table k t).policy ≡ 1
+  cut_fixed = cut_policy k t ∙ fixed
 
-  cut-ahead : (i j : ℕ) → i < k → j < 8 → ahead (cutTable k t) (cutState k s) i j ≡ ahead t s i j
-  cut-ahead i j b h =
-      fixed-ahead (cutTable k t) cut-fixed (cutState k s) i j
+  cut_ahead : (i j : ℕ) → i < k → j < 8 → ahead (cut_table k t) (cut_state k s) i j ≡ ahead t s i j
+  cut_ahead i j b h =
+      fixed_ahead (cut_table k t) cut_fixed (cut_state k s) i j
       ∙ by_bool (ltb j i)
-      (λ e. rw (task-in k t s j h (omega (arith, ltb-true j i e))).c)
-      (λ e. rw e (and-false (ready (cutState k s) j) ∙ sym (and-false (ready s j))))
-      ∙ sym (fixed-ahead t fixed s i j)
+      (λ e. rw (task_in k t s j h (omega (arith, ltb-true j i e))).c)
+      (λ e. rw e (and_false (ready (cut_state k s) j) ∙ sym (and_false (ready s j))))
+      ∙ sym (fixed_ahead t fixed s i j)
 
   -- LAW: each of the first k tasks runs in the cut exactly where it runs in the whole
-  pub cut-runs : (i : ℕ) → i < 8 → i < k → runs (cutTable k t) (cutState k s) i ≡ runs t s i
-  cut-runs i h b =
-      same_runs (cutTable k t) t (cutState k s) s i (task-in k t s i h b)
-      (fixed-keeps (cutTable k t) cut-fixed (cutState k s) i ∙ sym (fixed-keeps t fixed s i))
-      (count_same (ahead (cutTable k t) (cutState k s) i) (ahead t s i) 8 (λ j l. cut-ahead i j b l)) (cut-m k t)
+  pub cut_runs : (i : ℕ) → i < 8 → i < k → runs (cut_table k t) (cut_state k s) i ≡ runs t s i
+  cut_runs i h b =
+      same_runs (cut_table k t) t (cut_state k s) s i (task_in k t s i h b)
+      (fixed_keeps (cut_table k t) cut_fixed (cut_state k s) i ∙ sym (fixed_keeps t fixed s i))
+      (count_same (ahead (cut_table k t) (cut_state k s) i) (ahead t s i) 8 (λ j l. cut_ahead i j b l)) (cut_m k t)
 
-  ran-work : eight (ranAt (cutState k s).c (chosen (cutTable k t) (cutState k s))) ≡ firstOf k (eight (ranAt s.c (chosen t s)))
-  unfolding ranAt chosen
-  ran-work =
-      eight-same (ranAt (cutState k s).c (chosen (cutTable k t) (cutState k s))) (λ i. pick (ltb i k) (get_or (eight (ranAt s.c (chosen t s))) i 0) 0)
+  ran_work : eight (ran_at (cut_state k s).c (chosen (cut_table k t) (cut_state k s))) ≡ first_of k (eight (ran_at s.c (chosen t s)))
+  unfolding ran_at chosen
+  ran_work =
+      eight_same (ran_at (cut_state k s).c (chosen (cut_table k t) (cut_state k s))) (λ i. pick (ltb i k) (get_or (eight (ran_at s.c (chosen t s))) i 0) 0)
       (λ i h.
-      by-task k t s i h
+      by_task k t s i h
       (λ b same.
-      rw (lt-ltb i k b, eight-at false (runs (cutTable k t) (cutState k s)) i h, cut-runs i h b, same.c)
-      (sym (eight-at 0 (ranAt s.c (chosen t s)) i h ∙ ap (λ r. pick r (get_or s.c i 0 - 1) (get_or s.c i 0)) (eight-at false (runs t s) i h))))
+      rw (lt-ltb i k b, eight_at false (runs (cut_table k t) (cut_state k s)) i h, cut_runs i h b, same.c)
+      (sym (eight_at 0 (ran_at s.c (chosen t s)) i h ∙ ap (λ r. pick r (get_or s.c i 0 - 1) (get_or s.c i 0)) (eight_at false (runs t s) i h))))
       (λ b none.
-      rw (le-ltb i k b, eight-at false (runs (cutTable k t) (cutState k s)) i h, none_runs (cutTable k t) (cutState k s) i none.c, none.c)))
+      rw (le-ltb i k b, eight_at false (runs (cut_table k t) (cut_state k s)) i h, none_runs (cut_table k t) (cut_state k s) i none.c, none.c)))
 
-  ran-gap : eight (fallen (cutState k s).p) ≡ firstOf k (eight (fallen s.p))
+  ran_gap : eight (fallen (cut_state k s).p) ≡ first_of k (eight (fallen s.p))
   unfolding fallen
-  ran-gap =
-      eight-same (fallen (cutState k s).p) (λ i. pick (ltb i k) (get_or (eight (fallen s.p)) i 0) 0)
+  ran_gap =
+      eight_same (fallen (cut_state k s).p) (λ i. pick (ltb i k) (get_or (eight (fallen s.p)) i 0) 0)
       (λ i h.
-      by-task k t s i h
-      (λ b same. rw (lt-ltb i k b, same.p) (sym (eight-at 0 (fallen s.p) i h)))
+      by_task k t s i h
+      (λ b same. rw (lt-ltb i k b, same.p) (sym (eight_at 0 (fallen s.p) i h)))
       (λ b none. rw (le-ltb i k b, none.p)))
 
-  cut-ran : ran (cutState k s) (chosen (cutTable k t) (cutState k s)) ≡ cutState k (ran s (chosen t s))
-  unfolding ran cutState
-  cut-ran = λ x. record { c = ran-work x; p = ran-gap x }
+  cut_ran : ran (cut_state k s) (chosen (cut_table k t) (cut_state k s)) ≡ cut_state k (ran s (chosen t s))
+  unfolding ran cut_state
+  cut_ran = λ x. record { c = ran_work x; p = ran_gap x }
 
 -- LAW: a tick of the cut table with the low bits of a mask leaves the cut of what the tick of the whole leaves
 pub cut-after :
-    (k : ℕ) (t : Table) → t.policy ≡ 1 → (s : State) {low mask : ℕ} → LowBits k low mask → after (cutTable k t) (cutState k s) low ≡ cutState k (after t s mask)
+    (k : ℕ) (t : Table) → t.policy ≡ 1 → (s : State) {low mask : ℕ} → LowBits k low mask → after (cut_table k t) (cut_state k s) low ≡ cut_state k (after t s mask)
 unfolding after
 cut-after k t fixed s {low} {mask} bits =
-    ap (λ r. ran r (chosen (cutTable k t) r)) (cut-released k t s bits) ∙ cut-ran k t fixed (released t s mask)
+    ap (λ r. ran r (chosen (cut_table k t) r)) (cut_released k t s bits) ∙ cut_ran k t fixed (released t s mask)

@@ -1,14 +1,14 @@
 // Tables and states that are cut.
 ghost use Rattle.std.specs.Prelude.{◌≡◌};
-ghost use Rattle.tasks.specs.Answers.{sheetAnswer};
-ghost use Rattle.cut.specs.Cut.{cutTable, cutState, cut_of};
+ghost use Rattle.tasks.specs.Answers.{sheet_answer};
+ghost use Rattle.cut.specs.Cut.{cut_table, cut_state, cut_of};
 
 use crate::numbers::first_of;
 use tasks::{Reading, Sheet, State, Table};
 
 // The first k tasks of a table, for any table and k.
 fn first_tasks(t: Table, k: u8) -> Table
-    ensures { result ≡ cutTable k t }
+    ensures { result ≡ cut_table k t }
 {
     let work = t.work;
     let deadline = t.deadline;
@@ -25,7 +25,7 @@ fn first_tasks(t: Table, k: u8) -> Table
 
 // The table cut to its first k tasks: 4 to 7 for the table, then 6 where k is outside 1 to n.
 pub fn cut_table(t: Table, k: u8) -> Sheet
-    ensures { (sheetAnswer result ≡ sheetAnswer (cut_of t k)) × (result.table ≡ (cut_of t k).table) }
+    ensures { (sheet_answer result ≡ sheet_answer (cut_of t k)) × (result.table ≡ (cut_of t k).table) }
 {
     let fault = t.fault();
     if 0 < fault {
@@ -44,7 +44,7 @@ pub fn cut_table(t: Table, k: u8) -> Sheet
 
 // A state cut to the first k tasks, for any state and k.
 pub fn cut_state(s: State, k: u8) -> State
-    ensures { result ≡ cutState k s }
+    ensures { result ≡ cut_state k s }
 {
     let c = s.c;
     let p = s.p;

@@ -14,11 +14,11 @@ abbrev pub base_of : ℕ → ℕ → ℕ → ℕ
 base_of policy deadline gap = pick (nat_lt policy 2) 255 ((256 * deadline + 255 + 65536 - 257 * gap) % 65536)
 
 -- 255 where a policy goes by p, and where it goes by c; else 0
-abbrev pub gapMask : ℕ → ℕ
-gapMask policy = pick (nat_lt policy 2) 0 255
+abbrev pub gap_mask : ℕ → ℕ
+gap_mask policy = pick (nat_lt policy 2) 0 255
 
-abbrev pub workMask : ℕ → ℕ
-workMask policy = pick (nat_lt policy 4) 0 255
+abbrev pub work_mask : ℕ → ℕ
+work_mask policy = pick (nat_lt policy 4) 0 255
 
 -- a base moved up by p, which raises the key and lowers the age, and down by c
 abbrev pub moved : ℕ → ℕ → ℕ → ℕ → ℕ → ℕ

@@ -1,6 +1,6 @@
 // One job: its age, the time left, the slack, whether it is late, and by what it is ordered.
 ghost use Rattle.std.specs.Prelude.{◌≡◌, nat_lt};
-ghost use Rattle.jobs.specs.Job.{age, timeLeft, slack, lateJob, jobKey, jobAge, lex};
+ghost use Rattle.jobs.specs.Job.{age, time_left, slack, late_job, job_key, job_age, lex};
 
 // The age, P - p.
 fn age(gap: u8, p: u8) -> i16
@@ -11,7 +11,7 @@ fn age(gap: u8, p: u8) -> i16
 
 // The time left, D - (P - p).
 fn time_left(deadline: u8, gap: u8, p: u8) -> i16
-    ensures { result ≡ timeLeft deadline gap p }
+    ensures { result ≡ time_left deadline gap p }
 {
     (deadline as i16) - age(gap, p)
 }
@@ -25,14 +25,14 @@ pub fn slack_of(deadline: u8, gap: u8, p: u8, c: u8) -> i16
 
 // Whether a job with c work left is late.
 pub fn late_job(deadline: u8, gap: u8, p: u8, c: u8) -> bool
-    ensures { result ≡ lateJob deadline gap p c }
+    ensures { result ≡ late_job deadline gap p c }
 {
     (0 < c) & (slack_of(deadline, gap, p, c) < 0)
 }
 
 // The key of a job: of two jobs that with the smaller one goes first, under any policy.
 pub fn job_key(policy: u8, deadline: u8, gap: u8, p: u8, c: u8) -> i16
-    ensures { result ≡ jobKey policy deadline gap p c }
+    ensures { result ≡ job_key policy deadline gap p c }
 {
     if policy < 2 {
         return 0;
@@ -45,7 +45,7 @@ pub fn job_key(policy: u8, deadline: u8, gap: u8, p: u8, c: u8) -> i16
 
 // The age by which equal keys are told apart, under any policy.
 pub fn job_age(policy: u8, gap: u8, p: u8) -> i16
-    ensures { result ≡ jobAge policy gap p }
+    ensures { result ≡ job_age policy gap p }
 {
     if policy < 2 { 0 } else { age(gap, p) }
 }

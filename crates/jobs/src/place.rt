@@ -1,6 +1,6 @@
 // The place of a job in the order, one number: the smaller goes first.
 ghost use Rattle.std.specs.Prelude.{◌≡◌, ◌/◌, ◌%◌, ◌≤◌};
-ghost use Rattle.jobs.specs.Place.{place_of, base_of, gapMask, workMask, moved};
+ghost use Rattle.jobs.specs.Place.{place_of, base_of, gap_mask, work_mask, moved};
 
 // The place of a job with so many before it: 0 where it keeps its processor, 65535 where there is none.
 pub fn place_of(busy: bool, stays: bool, earlier: u16) -> u16
@@ -28,14 +28,14 @@ pub fn base_of(policy: u8, deadline: u8, gap: u8) -> u16
 
 // 255 where the policy goes by the ticks until the next release.
 pub fn gap_mask(policy: u8) -> u16
-    ensures { result ≡ gapMask policy }
+    ensures { result ≡ gap_mask policy }
 {
     if policy < 2 { 0 } else { 255 }
 }
 
 // 255 where it goes by the work left.
 pub fn work_mask(policy: u8) -> u16
-    ensures { result ≡ workMask policy }
+    ensures { result ≡ work_mask policy }
 {
     if policy < 4 { 0 } else { 255 }
 }

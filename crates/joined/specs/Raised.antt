@@ -8,17 +8,17 @@ use Rattle.tasks.specs.declared.play.ReplayAnswer.TheVariants.{Played, Refused}
 use Rattle.tasks.specs.declared.play.Replayed.{Replayed}
 
 -- a tick's number with k ticks before it; 0, which names no tick, stays
-unfoldable pub raisedTick : ℕ → ℕ → ℕ
-raisedTick k tick = pick (eqb tick 0) 0 (k + tick)
+unfoldable pub raised_tick : ℕ → ℕ → ℕ
+raised_tick k tick = pick (eqb tick 0) 0 (k + tick)
 
-unfoldable pub raisedOutcome : ℕ → Outcome → Outcome
-raisedOutcome k Kept = Kept
-raisedOutcome k (Missed tick) = Missed (raisedTick k tick)
+unfoldable pub raised_outcome : ℕ → Outcome → Outcome
+raised_outcome k Kept = Kept
+raised_outcome k (Missed tick) = Missed (raised_tick k tick)
 
-unfoldable pub raisedAnswer : ℕ → ReplayAnswer → ReplayAnswer
-raisedAnswer k (Played o) = Played (raisedOutcome k o)
-raisedAnswer k (Refused r tick) = Refused r (raisedTick k tick)
+unfoldable pub raised_answer : ℕ → ReplayAnswer → ReplayAnswer
+raised_answer k (Played o) = Played (raised_outcome k o)
+raised_answer k (Refused r tick) = Refused r (raised_tick k tick)
 
 -- what a play answers, with k ticks before it
 abbrev pub raised : ℕ → Replayed → Replayed
-raised k r = record { answer = raisedAnswer k r.answer; state = r.state }
+raised k r = record { answer = raised_answer k r.answer; state = r.state }

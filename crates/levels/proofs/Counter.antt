@@ -14,7 +14,7 @@ use Rattle.levels.specs.Verdict.Answer.{Unsafe, Safe, NoRoom}
 use Rattle.levels.specs.Compute.{Computed, computed}
 use Rattle.levels.specs.Compute.Computed.{Answered, OutOfFuel}
 use Rattle.levels.proofs.Legal.{FinitelyBranching}
-use Rattle.levels.proofs.Compute.{computed-right}
+use Rattle.levels.proofs.Compute.{computed_right}
 
 abbrev pick : {A : Type 0} → Bool → A → A → A
 pick true a b = a
@@ -49,4 +49,4 @@ branching limit = record { equal = eqb-true; different = eqb-false; others = oth
 -- the verdict of the counter with limit 4 in five slots: adding 1, 2 and 2 passes it
 verdict : Verdict (counter 4) 5 (Unsafe 3 5) (1 ∷ 2 ∷ 2 ∷ [])
 unfolding computed
-verdict = computed-right (counter 4) eqb (0 ∷ 1 ∷ 2 ∷ []) (branching 4) 5 (omega arith) 9 (Unsafe 3 5) (1 ∷ 2 ∷ 2 ∷ []) refl
+verdict = computed_right (counter 4) eqb (0 ∷ 1 ∷ 2 ∷ []) (branching 4) 5 (omega arith) 9 (Unsafe 3 5) (1 ∷ 2 ∷ 2 ∷ []) refl

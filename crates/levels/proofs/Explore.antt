@@ -10,8 +10,8 @@ use lib.ListN.{length}
 use Rattle.levels.specs.Verdict.{System, Within, Misses, Reaches, Distinct, Holds, CountAtMost}
 use Rattle.levels.specs.Verdict.Tick.{Next, Missed}
 use Rattle.levels.specs.Levels.{Before, Calm, Hunted, Hunting, Covered, Storing}
-use Rattle.levels.proofs.Numbered.{split-last, holds_more, push-distinct}
-use Rattle.levels.proofs.Replay.{within-start, within-next, within_more, miss-within, reach-ind}
+use Rattle.levels.proofs.Numbered.{split_last, holds_more, push_distinct}
+use Rattle.levels.proofs.Replay.{within_start, within_next, within_more, miss_within, reach_ind}
 
 module _ (sys : System) where
   open sys use {State, Mask, start, step}
@@ -37,54 +37,54 @@ module _ (sys : System) where
 
   -- slot 0 holds the start: level 0 is complete
   module _ (at : ℕ → State) (e : at 0 ≡ start) where
-    start-sound : (i : ℕ) → i < 1 → Within sys 0 (at i)
-    start-sound i h = let z : i ≡ 0 = omega arith in rw (z, e) (within-start sys 0)
+    start_sound : (i : ℕ) → i < 1 → Within sys 0 (at i)
+    start_sound i h = let z : i ≡ 0 = omega arith in rw (z, e) (within_start sys 0)
 
-    start-full : (s : State) → Within sys 0 s → Holds at 1 s
-    start-full s w = record { place = 0; below = omega arith; same = e ∙ within_none s w }
+    start_full : (s : State) → Within sys 0 s → Holds at 1 s
+    start_full s w = record { place = 0; below = omega arith; same = e ∙ within_none s w }
 
-    start-distinct : Distinct at 1
-    start-distinct i j hi hj q = omega arith
+    start_distinct : Distinct at 1
+    start_distinct i j hi hj q = omega arith
 
-    start-past : (d : ℕ) → d ≤ 0 → CountAtMost sys d 1
-    start-past d h = let z : 0 ≡ d = omega arith in rw z at (start-count)
+    start_past : (d : ℕ) → d ≤ 0 → CountAtMost sys d 1
+    start_past d h = let z : 0 ≡ d = omega arith in rw z at (start_count)
       where
-        start-count : CountAtMost sys 0 1
-        start-count = record { count = 1; counts = record { at = at; distinct = start-distinct; each = start-sound; all = start-full }; most = omega arith }
+        start_count : CountAtMost sys 0 1
+        start_count = record { count = 1; counts = record { at = at; distinct = start_distinct; each = start_sound; all = start_full }; most = omega arith }
 
-    start-quiet : (l : List Mask) → length l ≤ 0 → Misses sys l → ⊥
-    start-quiet [] h w = let r = w.answer in let z : ◌≡◌ {A = ℕ} 0 1 = cc in omega arith
-    start-quiet (m ∷ ms) h w = omega arith
+    start_quiet : (l : List Mask) → length l ≤ 0 → Misses sys l → ⊥
+    start_quiet [] h w = let r = w.answer in let z : ◌≡◌ {A = ℕ} 0 1 = cc in omega arith
+    start_quiet (m ∷ ms) h w = omega arith
 
-    pub start-law : Explored at 0 1 0
-    start-law = record {
+    pub start_law : Explored at 0 1 0
+    start_law = record {
       order = omega arith;
-      distinct = start-distinct;
-      sound = start-sound;
-      full = start-full;
+      distinct = start_distinct;
+      sound = start_sound;
+      full = start_full;
       closed = λ i h m t q. absurd (omega arith);
       calm = λ i h m t q. omega arith;
-      quiet = start-quiet;
-      past = start-past;
+      quiet = start_quiet;
+      past = start_past;
     }
 
   -- a level that is hunted: no list of at most d + 1 ticks misses
-  pub hunted-lists : {d : ℕ} → Hunted sys d → (l : List Mask) → length l ≤ suc d → Misses sys l → ⊥
-  hunted-lists {d} hunted l h w = let (s, m, t, q, e) = miss-within sys d l h w in hunted s q m t e
+  pub hunted_lists : {d : ℕ} → Hunted sys d → (l : List Mask) → length l ≤ suc d → Misses sys l → ⊥
+  hunted_lists {d} hunted l h w = let (s, m, t, q, e) = miss_within sys d l h w in hunted s q m t e
 
   -- the hunt begins, goes on by a slot from which no mask misses, and ends
-  pub hunt-start : {at : ℕ → State} {lo : ℕ} → Hunting sys at lo lo
-  hunt-start = record { calm = λ j l h m t e. omega arith }
+  pub hunt_start : {at : ℕ → State} {lo : ℕ} → Hunting sys at lo lo
+  hunt_start = record { calm = λ j l h m t e. omega arith }
 
-  pub hunt-next : {at : ℕ → State} {lo i : ℕ} → Hunting sys at lo i → Calm sys (at i) → Hunting sys at lo (suc i)
-  hunt-next {at} {lo} {i} x calm = record { calm = λ j l h. go j l (split-last h) }
+  pub hunt_next : {at : ℕ → State} {lo i : ℕ} → Hunting sys at lo i → Calm sys (at i) → Hunting sys at lo (suc i)
+  hunt_next {at} {lo} {i} x calm = record { calm = λ j l h. go j l (split_last h) }
     where
       go : (j : ℕ) → lo ≤ j → (j < i) ⊎ (j ≡ i) → Calm sys (at j)
       go j l (inl b) = x.calm j l b
       go j l (inr z) = rw z calm
 
-  pub hunt-law : {at : ℕ → State} {lo hi d : ℕ} → Explored at lo hi d → Hunting sys at lo hi → Hunted sys d
-  hunt-law {at} {lo} {hi} x y s w m t e = go (x.full s w)
+  pub hunt_law : {at : ℕ → State} {lo hi d : ℕ} → Explored at lo hi d → Hunting sys at lo hi → Hunted sys d
+  hunt_law {at} {lo} {hi} x y s w m t e = go (x.full s w)
     where
       go : Holds at hi s → ⊥
       go h = split (dec_lt h.place lo)
@@ -97,8 +97,8 @@ module _ (sys : System) where
           split (no n) = y.calm h.place (omega arith) h.below m t here
 
   -- the level is hunted: storing begins, and every pair of the earlier levels was tried
-  pub open-law : {at : ℕ → State} {lo hi d : ℕ} → Explored at lo hi d → Hunted sys d → Storing sys at hi hi d (Before lo)
-  open-law x hunted = record {
+  pub open_law : {at : ℕ → State} {lo hi d : ℕ} → Explored at lo hi d → Hunted sys d → Storing sys at hi hi d (Before lo)
+  open_law x hunted = record {
     order = omega arith;
     distinct = x.distinct;
     old = x.sound;
@@ -110,9 +110,9 @@ module _ (sys : System) where
   }
 
   -- a pair is tried when its successor is stored, or it has none
-  pub tried-law : {at : ℕ → State} {hi n d : ℕ} {T U : ℕ → Mask → Type 0} → Storing sys at hi n d T
+  pub tried_law : {at : ℕ → State} {hi n d : ℕ} {T U : ℕ → Mask → Type 0} → Storing sys at hi n d T
       → ((i : ℕ) (m : Mask) → i < hi → U i m → T i m ⊎ Covered sys at n (at i) m) → Storing sys at hi n d U
-  tried-law x more = record {
+  tried_law x more = record {
     order = x.order;
     distinct = x.distinct;
     old = x.old;
@@ -124,15 +124,15 @@ module _ (sys : System) where
   }
 
   -- a successor that is not there yet goes into slot n
-  pub push-law : {at at' : ℕ → State} {hi n d : ℕ} {T : ℕ → Mask → Type 0} → Storing sys at hi n d T
+  pub push_law : {at at' : ℕ → State} {hi n d : ℕ} {T : ℕ → Mask → Type 0} → Storing sys at hi n d T
       → ((i : ℕ) → i < n → at' i ≡ at i)
       → (i : ℕ) (m : Mask) → i < hi → step (at i) m ≡ Next (at' n) → (Holds at n (at' n) → ⊥)
       → Storing sys at' hi (suc n) d T
-  push-law {at} {at'} {hi} {n} {d} x same i m h e absent = record {
+  push_law {at} {at'} {hi} {n} {d} x same i m h e absent = record {
     order = (let o = x.order in omega arith);
-    distinct = push-distinct x.distinct same absent;
+    distinct = push_distinct x.distinct same absent;
     old = λ j l. rw (same j (low j l)) (x.old j l);
-    new = λ j l. fresh j (split-last l);
+    new = λ j l. fresh j (split_last l);
     full = λ s w. holds_more (omega arith) (λ j l. same j (low j l)) (x.full s w);
     stored = λ j k l u t q. holds_more (omega arith) same (x.stored j k l u t (rw (same j (low j l)) at q));
     hunted = x.hunted;
@@ -144,7 +144,7 @@ module _ (sys : System) where
 
       fresh : (j : ℕ) → (j < n) ⊎ (j ≡ n) → Within sys (suc d) (at' j)
       fresh j (inl l) = rw (same j l) (x.new j l)
-      fresh j (inr z) = rw z (within-next sys (x.old i h) m e)
+      fresh j (inr z) = rw z (within_next sys (x.old i h) m e)
 
   -- every pair is tried: the slots hold all that is reached within d + 1 ticks
   module _ {at : ℕ → State} {hi n d : ℕ} {T : ℕ → Mask → Type 0} (x : Storing sys at hi n d T) (all : (i : ℕ) (m : Mask) → i < hi → T i m) where
@@ -155,35 +155,35 @@ module _ (sys : System) where
         go : Holds at hi s → Holds at n t
         go h = x.stored h.place m h.below (all h.place m h.below) t (rw h.same e)
 
-    pub level-full : (s : State) → Within sys (suc d) s → Holds at n s
-    level-full s w = (reach-ind sys P keep base w.masks s w.reaches w.short).1
+    pub level_full : (s : State) → Within sys (suc d) s → Holds at n s
+    level_full s w = (reach_ind sys P keep base w.masks s w.reaches w.short).1
       where
         P : ℕ → State → Type 0
         P k u = k ≤ suc d → Within sys k u × Holds at n u
 
         base : P 0 start
-        base h = (within-start sys 0, holds_more x.order (λ i l. refl) (x.full start (within-start sys d)))
+        base h = (within_start sys 0, holds_more x.order (λ i l. refl) (x.full start (within_start sys d)))
 
         keep : (k : ℕ) (u : State) (m : Mask) (t : State) → P k u → step u m ≡ Next t → P (suc k) t
         keep k u m t p e h =
             let q = p (omega arith) in
-            (within-next sys q.0 m e, into u m t (within_more sys (omega arith) q.0) e)
+            (within_next sys q.0 m e, into u m t (within_more sys (omega arith) q.0) e)
 
-    level-past : (e : ℕ) → e ≤ suc d → CountAtMost sys e n
-    level-past e h = go (split-last (suc-le-suc h))
+    level_past : (e : ℕ) → e ≤ suc d → CountAtMost sys e n
+    level_past e h = go (split_last (suc-le-suc h))
       where
         go : (e < suc d) ⊎ (e ≡ suc d) → CountAtMost sys e n
         go (inl l) = let c = x.past e (omega arith) in record { count = c.count; counts = c.counts; most = (let a = c.most in let b = x.order in omega arith) }
-        go (inr z) = rw z (record { count = n; counts = record { at = at; distinct = x.distinct; each = x.new; all = level-full }; most = omega arith })
+        go (inr z) = rw z (record { count = n; counts = record { at = at; distinct = x.distinct; each = x.new; all = level_full }; most = omega arith })
 
-    pub level-law : Explored at hi n (suc d)
-    level-law = record {
+    pub level_law : Explored at hi n (suc d)
+    level_law = record {
       order = x.order;
       distinct = x.distinct;
       sound = x.new;
-      full = level-full;
+      full = level_full;
       closed = λ i h m. x.stored i m h (all i m h);
       calm = λ i h. x.hunted (at i) (x.old i h);
-      quiet = hunted-lists x.hunted;
-      past = level-past;
+      quiet = hunted_lists x.hunted;
+      past = level_past;
     }

@@ -9,15 +9,15 @@ use native.Mathlib.Omega.{arith}
 use Rattle.levels.specs.Verdict.{System, Tick, Holds}
 use Rattle.levels.specs.Verdict.Tick.{Next, Missed, Refused}
 use Rattle.levels.specs.Levels.{Before, Calm, Covered, Storing}
-use Rattle.levels.proofs.Numbered.{split-last}
-use Rattle.levels.proofs.Explore.{tried-law, push-law}
+use Rattle.levels.proofs.Numbered.{split_last}
+use Rattle.levels.proofs.Explore.{tried_law, push_law}
 
 -- a refusal is neither a miss nor a state
-refused-not-missed : {S : Type 0} {o : Tick S} {t : S} → o ≡ Refused → o ≡ Missed t → ⊥
-refused-not-missed r e = let z : ◌≡◌ {A = ℕ} 0 1 = cc in omega arith
+refused_not_missed : {S : Type 0} {o : Tick S} {t : S} → o ≡ Refused → o ≡ Missed t → ⊥
+refused_not_missed r e = let z : ◌≡◌ {A = ℕ} 0 1 = cc in omega arith
 
-refused-not-next : {S : Type 0} {o : Tick S} {t : S} → o ≡ Refused → o ≡ Next t → ⊥
-refused-not-next r e = let z : ◌≡◌ {A = ℕ} 0 1 = cc in omega arith
+refused_not_next : {S : Type 0} {o : Tick S} {t : S} → o ≡ Refused → o ≡ Next t → ⊥
+refused_not_next r e = let z : ◌≡◌ {A = ℕ} 0 1 = cc in omega arith
 
 -- the pairs tried: every mask of the slots before slot i, and of slot i those that are done
 abbrev pub Row : {M : Type 0} → ℕ → (M → Type 0) → ℕ → M → Type 0
@@ -33,30 +33,30 @@ module _ (sys : System) where
   open sys use {State, Mask, step}
 
   -- no legal mask misses from s, and any other is refused
-  pub calm-legal : (s : State) {Legal : Mask → Type 0} → ((m : Mask) → Legal m ⊎ (step s m ≡ Refused))
+  pub calm_legal : (s : State) {Legal : Mask → Type 0} → ((m : Mask) → Legal m ⊎ (step s m ≡ Refused))
       → ((m : Mask) → Legal m → (t : State) → step s m ≡ Missed t → ⊥) → Calm sys s
-  calm-legal s others none m t e = ⊎_elim (λ l. none m l t e) (λ r. refused-not-missed r e) (others m)
+  calm_legal s others none m t e = ⊎_elim (λ l. none m l t e) (λ r. refused_not_missed r e) (others m)
 
   -- the successors of s under the legal masks are among the first n slots, and any other mask is refused
-  pub covered-legal : {at : ℕ → State} {n : ℕ} (s : State) {Legal : Mask → Type 0} → ((m : Mask) → Legal m ⊎ (step s m ≡ Refused))
+  pub covered_legal : {at : ℕ → State} {n : ℕ} (s : State) {Legal : Mask → Type 0} → ((m : Mask) → Legal m ⊎ (step s m ≡ Refused))
       → ((m : Mask) → Legal m → Covered sys at n s m) → (m : Mask) → Covered sys at n s m
-  covered-legal s others covered m t e = ⊎_elim (λ l. covered m l t e) (λ r. absurd (refused-not-next r e)) (others m)
+  covered_legal s others covered m t e = ⊎_elim (λ l. covered m l t e) (λ r. absurd (refused_not_next r e)) (others m)
 
   -- one mask tried for all: full does not miss from s, and it would where any legal mask does
-  pub calm-full : (s : State) {Legal : Mask → Type 0} → ((m : Mask) → Legal m ⊎ (step s m ≡ Refused))
+  pub calm_full : (s : State) {Legal : Mask → Type 0} → ((m : Mask) → Legal m ⊎ (step s m ≡ Refused))
       → (full : Mask) → ((m : Mask) → Legal m → (t : State) → step s m ≡ Missed t → (u : State) × (step s full ≡ Missed u))
       → ((u : State) → step s full ≡ Missed u → ⊥) → Calm sys s
-  calm-full s others full grows none = calm-legal s others (λ m l t e. let (u, q) = grows m l t e in none u q)
+  calm_full s others full grows none = calm_legal s others (λ m l t e. let (u, q) = grows m l t e in none u q)
 
   -- a row: the masks of slot i, of which none is done at first
   pub row_open : {at : ℕ → State} {hi n d i : ℕ} {Done : Mask → Type 0} → Storing sys at hi n d (Before i) → ((q : Mask) → Done q → ⊥) → Storing sys at hi n d (Row i Done)
-  row_open x none = tried-law sys x (λ j m h u. ⊎_elim (λ l. inl l) (λ q. absurd (none m q.1)) u)
+  row_open x none = tried_law sys x (λ j m h u. ⊎_elim (λ l. inl l) (λ q. absurd (none m q.1)) u)
 
   -- mask m is done: its successor is among the slots, or it has none
   pub row_next : {at : ℕ → State} {hi n d i : ℕ} {Done Done' : Mask → Type 0} → Storing sys at hi n d (Row i Done)
       → (m : Mask) → ((q : Mask) → Done' q → Done q ⊎ (q ≡ m)) → Covered sys at n (at i) m
       → Storing sys at hi n d (Row i Done')
-  row_next {at} {hi} {n} {d} {i} {Done} {Done'} x m grow covered = tried-law sys x more
+  row_next {at} {hi} {n} {d} {i} {Done} {Done'} x m grow covered = tried_law sys x more
     where
       more : (j : ℕ) (q : Mask) → j < hi → Row i Done' j q → Row i Done j q ⊎ Covered sys at n (at j) q
       more j q h (inl l) = inl (inl l)
@@ -67,11 +67,11 @@ module _ (sys : System) where
           go (inr z) = inr (rw (u.0, z) covered)
 
   -- mask m is done: its successor was not among the slots and goes into slot n
-  pub row-push : {at at' : ℕ → State} {hi n d i : ℕ} {Done Done' : Mask → Type 0} → Storing sys at hi n d (Row i Done)
+  pub row_push : {at at' : ℕ → State} {hi n d i : ℕ} {Done Done' : Mask → Type 0} → Storing sys at hi n d (Row i Done)
       → ((j : ℕ) → j < n → at' j ≡ at j) → i < hi
       → (m : Mask) → ((q : Mask) → Done' q → Done q ⊎ (q ≡ m)) → step (at i) m ≡ Next (at' n) → (Holds at n (at' n) → ⊥)
       → Storing sys at' hi (suc n) d (Row i Done')
-  row-push {at} {at'} {hi} {n} {d} {i} x same h m grow e absent = row_next (push-law sys x same i m h e absent) m grow covered
+  row_push {at} {at'} {hi} {n} {d} {i} x same h m grow e absent = row_next (push_law sys x same i m h e absent) m grow covered
     where
       covered : Covered sys at' (suc n) (at' i) m
       covered t q =
@@ -80,10 +80,10 @@ module _ (sys : System) where
           record { place = n; below = omega arith; same = cc }
 
   -- every mask of slot i is done or refused
-  pub row-close : {at : ℕ → State} {hi n d i : ℕ} {Done : Mask → Type 0} → Storing sys at hi n d (Row i Done)
+  pub row_close : {at : ℕ → State} {hi n d i : ℕ} {Done : Mask → Type 0} → Storing sys at hi n d (Row i Done)
       → ((m : Mask) → Done m ⊎ (step (at i) m ≡ Refused)) → Storing sys at hi n d (Before (suc i))
-  row-close {at} {hi} {n} {d} {i} {Done} x others = tried-law sys x (λ j m h u. go j m (split-last u))
+  row_close {at} {hi} {n} {d} {i} {Done} x others = tried_law sys x (λ j m h u. go j m (split_last u))
     where
       go : (j : ℕ) (m : Mask) → (j < i) ⊎ (j ≡ i) → Row i Done j m ⊎ Covered sys at n (at j) m
       go j m (inl l) = inl (inl l)
-      go j m (inr z) = ⊎_elim (λ y. inl (inr (z, y))) (λ r. inr (λ t e. absurd (refused-not-next r (rw z at e)))) (others m)
+      go j m (inr z) = ⊎_elim (λ y. inl (inr (z, y))) (λ r. inr (λ t e. absurd (refused_not_next r (rw z at e)))) (others m)

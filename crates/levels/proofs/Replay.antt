@@ -5,7 +5,7 @@ use Prim.Native.Nat.{ℕ, suc, ◌+◌, ◌≤◌, ◌<◌}
 use native.Mathlib.Omega.{arith}
 use native.Mathlib.Nat.{add-zero, zero-add}
 use lib.ListN.{length, length-append}
-use Rattle.levels.specs.Verdict.{Tick, Replay, System, goOn, replayFrom, replay, Reaches, Misses, Within, Reached}
+use Rattle.levels.specs.Verdict.{Tick, Replay, System, go_on, replay_from, replay, Reaches, Misses, Within, Reached}
 use Rattle.levels.specs.Verdict.Tick.{Next, Missed, Refused}
 use Rattle.levels.specs.Verdict.Replay.{Kept, MissedAt, RefusedAt}
 
@@ -25,43 +25,43 @@ module _ (sys : System) where
   open sys use {State, Mask, start, step}
 
   -- two joined lists
-  from-join : (k : ℕ) (s : State) (a b : List Mask) → replayFrom sys k s (a ++ b) ≡ onward (replayFrom sys k s a) (λ t. replayFrom sys (k + length a) t b)
-  from-join k s [] b = rw add-zero
-  from-join k s (m ∷ ms) b = go (λ t. from-join (suc k) t ms b) (step s m)
+  from_join : (k : ℕ) (s : State) (a b : List Mask) → replay_from sys k s (a ++ b) ≡ onward (replay_from sys k s a) (λ t. replay_from sys (k + length a) t b)
+  from_join k s [] b = rw add-zero
+  from_join k s (m ∷ ms) b = go (λ t. from_join (suc k) t ms b) (step s m)
     where
-      go : ((t : State) → replayFrom sys (suc k) t (ms ++ b) ≡ onward (replayFrom sys (suc k) t ms) (λ u. replayFrom sys (suc k + length ms) u b))
-          → (o : Tick State) → goOn k o (λ t. replayFrom sys (suc k) t (ms ++ b)) ≡ onward (goOn k o (λ t. replayFrom sys (suc k) t ms)) (λ u. replayFrom sys (k + suc (length ms)) u b)
+      go : ((t : State) → replay_from sys (suc k) t (ms ++ b) ≡ onward (replay_from sys (suc k) t ms) (λ u. replay_from sys (suc k + length ms) u b))
+          → (o : Tick State) → go_on k o (λ t. replay_from sys (suc k) t (ms ++ b)) ≡ onward (go_on k o (λ t. replay_from sys (suc k) t ms)) (λ u. replay_from sys (k + suc (length ms)) u b)
       go ih (Next t) = let e : suc k + length ms ≡ k + suc (length ms) = omega arith in rw e at (ih t)
       go ih (Missed t) = refl
       go ih Refused = refl
 
-  from-raise : (k j : ℕ) (s : State) (l : List Mask) → replayFrom sys (k + j) s l ≡ raise k (replayFrom sys j s l)
-  from-raise k j s [] = refl
-  from-raise k j s (m ∷ ms) = go (λ t. from-raise k (suc j) t ms) (step s m)
+  from_raise : (k j : ℕ) (s : State) (l : List Mask) → replay_from sys (k + j) s l ≡ raise k (replay_from sys j s l)
+  from_raise k j s [] = refl
+  from_raise k j s (m ∷ ms) = go (λ t. from_raise k (suc j) t ms) (step s m)
     where
-      go : ((t : State) → replayFrom sys (k + suc j) t ms ≡ raise k (replayFrom sys (suc j) t ms))
-          → (o : Tick State) → goOn (k + j) o (λ t. replayFrom sys (suc (k + j)) t ms) ≡ raise k (goOn j o (λ t. replayFrom sys (suc j) t ms))
+      go : ((t : State) → replay_from sys (k + suc j) t ms ≡ raise k (replay_from sys (suc j) t ms))
+          → (o : Tick State) → go_on (k + j) o (λ t. replay_from sys (suc (k + j)) t ms) ≡ raise k (go_on j o (λ t. replay_from sys (suc j) t ms))
       go ih (Next t) = let e : k + suc j ≡ suc (k + j) = omega arith in rw e at (ih t)
       go ih (Missed t) = let e : k + suc j ≡ suc (k + j) = omega arith in rw e
       go ih Refused = let e : k + suc j ≡ suc (k + j) = omega arith in rw e
 
   -- playing two joined lists is playing the second from the state where the first was Kept, with its tick numbers raised by the first's length
-  pub replay-join : (a b : List Mask) {s : State} → Reaches sys a s → replay sys (a ++ b) ≡ raise (length a) (replayFrom sys 0 s b)
-  replay-join a b {s} r = from-join 0 start a b ∙ (rw (r, zero-add) (rw add-zero at (from-raise (length a) 0 s b)))
+  pub replay_join : (a b : List Mask) {s : State} → Reaches sys a s → replay sys (a ++ b) ≡ raise (length a) (replay_from sys 0 s b)
+  replay_join a b {s} r = from_join 0 start a b ∙ (rw (r, zero-add) (rw add-zero at (from_raise (length a) 0 s b)))
 
   -- .. and where the first was not Kept the second is unread
-  pub replay-missed : (a b : List Mask) {i : ℕ} {s : State} → replay sys a ≡ MissedAt i s → replay sys (a ++ b) ≡ MissedAt i s
-  replay-missed a b r = from-join 0 start a b ∙ (rw r)
+  pub replay_missed : (a b : List Mask) {i : ℕ} {s : State} → replay sys a ≡ MissedAt i s → replay sys (a ++ b) ≡ MissedAt i s
+  replay_missed a b r = from_join 0 start a b ∙ (rw r)
 
-  pub replay-refused : (a b : List Mask) {i : ℕ} → replay sys a ≡ RefusedAt i → replay sys (a ++ b) ≡ RefusedAt i
-  replay-refused a b r = from-join 0 start a b ∙ (rw r)
+  pub replay_refused : (a b : List Mask) {i : ℕ} → replay sys a ≡ RefusedAt i → replay sys (a ++ b) ≡ RefusedAt i
+  replay_refused a b r = from_join 0 start a b ∙ (rw r)
 
   -- one more mask
-  pub reach-snoc : (l : List Mask) (m : Mask) {s t : State} → Reaches sys l s → step s m ≡ Next t → Reaches sys (l ++ m ∷ []) t
-  reach-snoc l m r e = from-join 0 start l (m ∷ []) ∙ (rw (r, e))
+  pub reach_snoc : (l : List Mask) (m : Mask) {s t : State} → Reaches sys l s → step s m ≡ Next t → Reaches sys (l ++ m ∷ []) t
+  reach_snoc l m r e = from_join 0 start l (m ∷ []) ∙ (rw (r, e))
 
-  pub miss-snoc : (l : List Mask) (m : Mask) {s t : State} → Reaches sys l s → step s m ≡ Missed t → replay sys (l ++ m ∷ []) ≡ MissedAt (suc (length l)) t
-  miss-snoc l m r e = from-join 0 start l (m ∷ []) ∙ (rw (r, e, zero-add))
+  pub miss_snoc : (l : List Mask) (m : Mask) {s t : State} → Reaches sys l s → step s m ≡ Missed t → replay sys (l ++ m ∷ []) ≡ MissedAt (suc (length l)) t
+  miss_snoc l m r e = from_join 0 start l (m ∷ []) ∙ (rw (r, e, zero-add))
 
   -- P holds of a state, after fewer than n ticks, from which a mask misses
   pub record BeforeMiss (P : ℕ → State → Type 0) (n : ℕ) : Type 0 where
@@ -75,44 +75,44 @@ module _ (sys : System) where
 
   -- what holds at the start and is kept by each tick holds where a list ends
   module _ (P : ℕ → State → Type 0) (keep : (k : ℕ) (s : State) (m : Mask) (t : State) → P k s → step s m ≡ Next t → P (suc k) t) where
-    reach-from : (l : List Mask) (k : ℕ) (s t : State) → P k s → replayFrom sys k s l ≡ Kept t → P (k + length l) t
-    reach-from [] k s t p r = rw add-zero (let e : s ≡ t = cc in rw e at p)
-    reach-from (m ∷ ms) k s t p r = go (λ u q. reach-from ms (suc k) u t q) (step s m) refl r
+    reach_from : (l : List Mask) (k : ℕ) (s t : State) → P k s → replay_from sys k s l ≡ Kept t → P (k + length l) t
+    reach_from [] k s t p r = rw add-zero (let e : s ≡ t = cc in rw e at p)
+    reach_from (m ∷ ms) k s t p r = go (λ u q. reach_from ms (suc k) u t q) (step s m) refl r
       where
-        go : ((u : State) → P (suc k) u → replayFrom sys (suc k) u ms ≡ Kept t → P (suc k + length ms) t)
-            → (o : Tick State) → step s m ≡ o → goOn k o (λ u. replayFrom sys (suc k) u ms) ≡ Kept t → P (k + suc (length ms)) t
+        go : ((u : State) → P (suc k) u → replay_from sys (suc k) u ms ≡ Kept t → P (suc k + length ms) t)
+            → (o : Tick State) → step s m ≡ o → go_on k o (λ u. replay_from sys (suc k) u ms) ≡ Kept t → P (k + suc (length ms)) t
         go ih (Next u) e r' = let z : suc k + length ms ≡ k + suc (length ms) = omega arith in rw z at (ih u (keep k s m u p e) r')
         go ih (Missed u) e r' = absurd (let z : ◌≡◌ {A = ℕ} 0 1 = cc in omega arith)
         go ih Refused e r' = absurd (let z : ◌≡◌ {A = ℕ} 0 1 = cc in omega arith)
 
-    pub reach-ind : P 0 start → (l : List Mask) (t : State) → Reaches sys l t → P (length l) t
-    reach-ind p l t r = rw zero-add at (reach-from l 0 start t p r)
+    pub reach_ind : P 0 start → (l : List Mask) (t : State) → Reaches sys l t → P (length l) t
+    reach_ind p l t r = rw zero-add at (reach_from l 0 start t p r)
 
     -- .. and where a list misses, it holds of the state before the miss, after fewer ticks than the list has
-    miss-from : (l : List Mask) (k : ℕ) (s : State) (i : ℕ) (t : State) → P k s → replayFrom sys k s l ≡ MissedAt i t → BeforeMiss P (k + length l)
-    miss-from [] k s i t p r = absurd (let z : ◌≡◌ {A = ℕ} 0 1 = cc in omega arith)
-    miss-from (m ∷ ms) k s i t p r = go (λ u q. miss-from ms (suc k) u i t q) (step s m) refl r
+    miss_from : (l : List Mask) (k : ℕ) (s : State) (i : ℕ) (t : State) → P k s → replay_from sys k s l ≡ MissedAt i t → BeforeMiss P (k + length l)
+    miss_from [] k s i t p r = absurd (let z : ◌≡◌ {A = ℕ} 0 1 = cc in omega arith)
+    miss_from (m ∷ ms) k s i t p r = go (λ u q. miss_from ms (suc k) u i t q) (step s m) refl r
       where
-        go : ((u : State) → P (suc k) u → replayFrom sys (suc k) u ms ≡ MissedAt i t → BeforeMiss P (suc k + length ms))
-            → (o : Tick State) → step s m ≡ o → goOn k o (λ u. replayFrom sys (suc k) u ms) ≡ MissedAt i t → BeforeMiss P (k + suc (length ms))
+        go : ((u : State) → P (suc k) u → replay_from sys (suc k) u ms ≡ MissedAt i t → BeforeMiss P (suc k + length ms))
+            → (o : Tick State) → step s m ≡ o → go_on k o (λ u. replay_from sys (suc k) u ms) ≡ MissedAt i t → BeforeMiss P (k + suc (length ms))
         go ih (Next u) e r' = let z : suc k + length ms ≡ k + suc (length ms) = omega arith in rw z at (ih u (keep k s m u p e) r')
         go ih (Missed u) e r' = record { ticks = k; fewer = omega arith; state = s; holds = p; mask = m; next = u; missed = e }
         go ih Refused e r' = absurd (let z : ◌≡◌ {A = ℕ} 0 1 = cc in omega arith)
 
-    pub miss-ind : P 0 start → (l : List Mask) → Misses sys l → BeforeMiss P (length l)
-    miss-ind p l w = rw zero-add at (miss-from l 0 start w.tick w.state p w.answer)
+    pub miss_ind : P 0 start → (l : List Mask) → Misses sys l → BeforeMiss P (length l)
+    miss_ind p l w = rw zero-add at (miss_from l 0 start w.tick w.state p w.answer)
 
 module _ (sys : System) where
   open sys use {State, Mask, start, step}
 
-  pub within-start : (d : ℕ) → Within sys d start
-  within-start d = record { masks = []; short = omega arith; reaches = refl }
+  pub within_start : (d : ℕ) → Within sys d start
+  within_start d = record { masks = []; short = omega arith; reaches = refl }
 
-  pub within-next : {d : ℕ} {s t : State} → Within sys d s → (m : Mask) → step s m ≡ Next t → Within sys (suc d) t
-  within-next w m e = record {
+  pub within_next : {d : ℕ} {s t : State} → Within sys d s → (m : Mask) → step s m ≡ Next t → Within sys (suc d) t
+  within_next w m e = record {
     masks = w.masks ++ m ∷ [];
     short = simp length-append (let h = w.short in omega arith);
-    reaches = reach-snoc sys w.masks m w.reaches e;
+    reaches = reach_snoc sys w.masks m w.reaches e;
   }
 
   pub within_more : {d e : ℕ} {s : State} → d ≤ e → Within sys d s → Within sys e s
@@ -121,16 +121,16 @@ module _ (sys : System) where
   pub reached : {d : ℕ} {s : State} → Within sys d s → Reached sys s
   reached w = record { masks = w.masks; reaches = w.reaches }
 
-  pub reached-next : {s t : State} → Reached sys s → (m : Mask) → step s m ≡ Next t → Reached sys t
-  reached-next r m e = record { masks = r.masks ++ m ∷ []; reaches = reach-snoc sys r.masks m r.reaches e }
+  pub reached_next : {s t : State} → Reached sys s → (m : Mask) → step s m ≡ Next t → Reached sys t
+  reached_next r m e = record { masks = r.masks ++ m ∷ []; reaches = reach_snoc sys r.masks m r.reaches e }
 
   -- where no list misses, no mask misses from a state that lists reach
-  pub reached-calm : ((l : List Mask) → Misses sys l → ⊥) → {s : State} → Reached sys s → (m : Mask) (t : State) → step s m ≡ Missed t → ⊥
-  reached-calm none r m t e = none (r.masks ++ m ∷ []) (record { tick = suc (length r.masks); state = t; answer = miss-snoc sys r.masks m r.reaches e })
+  pub reached_calm : ((l : List Mask) → Misses sys l → ⊥) → {s : State} → Reached sys s → (m : Mask) (t : State) → step s m ≡ Missed t → ⊥
+  reached_calm none r m t e = none (r.masks ++ m ∷ []) (record { tick = suc (length r.masks); state = t; answer = miss_snoc sys r.masks m r.reaches e })
 
   -- a list of at most d + 1 ticks misses only by a miss from a state reached within d
-  pub miss-within : (d : ℕ) (l : List Mask) → length l ≤ suc d → Misses sys l
+  pub miss_within : (d : ℕ) (l : List Mask) → length l ≤ suc d → Misses sys l
       → (s : State) × (m : Mask) × (t : State) × Within sys d s × (step s m ≡ Missed t)
-  miss-within d l h w =
-      let b = miss-ind sys (λ k s. Within sys k s) (λ k s m t q e. within-next q m e) (within-start 0) l w in
+  miss_within d l h w =
+      let b = miss_ind sys (λ k s. Within sys k s) (λ k s m t q e. within_next q m e) (within_start 0) l w in
       (b.state, b.mask, b.next, within_more (let x = b.fewer in omega arith) b.holds, b.missed)

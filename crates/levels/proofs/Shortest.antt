@@ -5,12 +5,12 @@ use Prim.Native.Nat.{ℕ, ◌+◌, ◌-◌, ◌≤◌, ◌<◌}
 use native.Mathlib.Omega.{arith}
 use native.Mathlib.Decide.{dec_lt}
 use lib.ListN.{length, take, drop, length-append, length-take, length-drop, take-append-drop}
-use Rattle.levels.specs.Verdict.{System, Replay, Reaches, Misses, replay, replayFrom, Distinct, Counts, Least, Verdict}
+use Rattle.levels.specs.Verdict.{System, Replay, Reaches, Misses, replay, replay_from, Distinct, Counts, Least, Verdict}
 use Rattle.levels.specs.Verdict.Replay.{Kept, MissedAt, RefusedAt}
 use Rattle.levels.specs.Verdict.Answer.{Unsafe}
 use Rattle.levels.proofs.Numbered.{no_more}
-use Rattle.levels.proofs.Replay.{raise, replay-join, replay-refused}
-use Rattle.levels.proofs.Verdicts.{least-unique}
+use Rattle.levels.proofs.Replay.{raise, replay_join, replay_refused}
+use Rattle.levels.proofs.Verdicts.{least_unique}
 
 module _ (sys : System) where
   open sys use {State, Mask, start, step}
@@ -50,7 +50,7 @@ module _ (sys : System) where
         go (MissedAt j s) e = absurd (let l = x.least (take i x.masks) (record { tick = j; state = s; answer = e }) in let m = short i h in omega arith)
         go (RefusedAt j) e = absurd (
             let a = x.misses.answer in
-            let b : replay sys x.masks ≡ RefusedAt j = (rw (whole i) at (replay-refused sys (take i x.masks) (drop i x.masks) e)) in
+            let b : replay sys x.masks ≡ RefusedAt j = (rw (whole i) at (replay_refused sys (take i x.masks) (drop i x.masks) e)) in
             let z : ◌≡◌ {A = ℕ} 0 1 = cc in omega arith)
 
     -- were two of them the same, the ticks between could be left out
@@ -58,10 +58,10 @@ module _ (sys : System) where
     apart i j h b e =
         let rest = drop j x.masks in
         let ri : Reaches sys (take i x.masks) (passed j) = (rw e at (passes i (omega arith))) in
-        let rj = replay-join sys (take j x.masks) rest (passes j b) in
-        let all : raise (length (take j x.masks)) (replayFrom sys 0 (passed j) rest) ≡ MissedAt x.misses.tick x.misses.state =
+        let rj = replay_join sys (take j x.masks) rest (passes j b) in
+        let all : raise (length (take j x.masks)) (replay_from sys 0 (passed j) rest) ≡ MissedAt x.misses.tick x.misses.state =
         sym rj ∙ (rw (whole j) x.misses.answer) in
-        let cut = replay-join sys (take i x.masks) rest ri ∙ raised (length (take j x.masks)) (length (take i x.masks)) (replayFrom sys 0 (passed j) rest) all in
+        let cut = replay_join sys (take i x.masks) rest ri ∙ raised (length (take j x.masks)) (length (take i x.masks)) (replay_from sys 0 (passed j) rest) all in
         let l = x.least (take i x.masks ++ rest) (record { tick = _; state = _; answer = cut }) in
         omega (arith, length-append (take i x.masks) rest, length-drop j x.masks, short i (omega arith), x.long)
 
@@ -74,25 +74,25 @@ module _ (sys : System) where
         go (no a) (no b) = omega arith
 
     -- L different states are within L - 1 ticks
-    pub least-count : {n : ℕ} → Counts sys (L - 1) n → L ≤ n
-    least-count c = no_more c passed L distinct (λ i h. record { masks = take i x.masks; short = (let l = short i h in omega arith); reaches = passes i h })
+    pub least_count : {n : ℕ} → Counts sys (L - 1) n → L ≤ n
+    least_count c = no_more c passed L distinct (λ i h. record { masks = take i x.masks; short = (let l = short i h in omega arith); reaches = passes i h })
 
   -- the empty list does not miss
-  pub least-positive : {L : ℕ} → Least sys L → 1 ≤ L
-  least-positive {L} x = go x.masks x.long x.misses
+  pub least_positive : {L : ℕ} → Least sys L → 1 ≤ L
+  least_positive {L} x = go x.masks x.long x.misses
     where
       go : (l : List Mask) → length l ≡ L → Misses sys l → 1 ≤ L
       go [] e w = absurd (let a = w.answer in let z : ◌≡◌ {A = ℕ} 0 1 = cc in omega arith)
       go (m ∷ ms) e w = omega arith
 
   -- under Unsafe L is at most the count, and at most K
-  pub unsafe-count : {K L n : ℕ} {trace : List Mask} → Verdict sys K (Unsafe L n) trace → L ≤ n
-  unsafe-count v = least-count v.report.least v.report.count
+  pub unsafe_count : {K L n : ℕ} {trace : List Mask} → Verdict sys K (Unsafe L n) trace → L ≤ n
+  unsafe_count v = least_count v.report.least v.report.count
 
-  pub unsafe-room : {K L n : ℕ} {trace : List Mask} → Verdict sys K (Unsafe L n) trace → L ≤ K
-  unsafe-room {K} {L} v =
+  pub unsafe_room : {K L n : ℕ} {trace : List Mask} → Verdict sys K (Unsafe L n) trace → L ≤ K
+  unsafe_room {K} {L} v =
       let u = v.unsafe.0 tt in
-      let e : u.L ≡ L = least-unique sys u.least v.report.least in
-      let a = least-count u.least u.room.counts in
+      let e : u.L ≡ L = least_unique sys u.least v.report.least in
+      let a = least_count u.least u.room.counts in
       let b = u.room.most in
       omega arith

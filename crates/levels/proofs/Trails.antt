@@ -8,36 +8,36 @@ use lib.ListN.{length, length-append}
 use Rattle.levels.specs.Verdict.{System}
 use Rattle.levels.specs.Verdict.Tick.{Next}
 use Rattle.levels.specs.Levels.{trail, Trailed, Grown}
-use Rattle.levels.proofs.Replay.{reach-snoc}
-use Rattle.levels.proofs.Numbered.{split-last}
+use Rattle.levels.proofs.Replay.{reach_snoc}
+use Rattle.levels.proofs.Numbered.{split_last}
 
-pub trail-length : {M : Type 0} (parent : ℕ → ℕ) (mask : ℕ → M) (k i : ℕ) → length (trail parent mask k i) ≡ k
-trail-length parent mask zero i = refl
-trail-length parent mask (suc k) i = simp length-append (let h = trail-length parent mask k (parent i) in omega arith)
+pub trail_length : {M : Type 0} (parent : ℕ → ℕ) (mask : ℕ → M) (k i : ℕ) → length (trail parent mask k i) ≡ k
+trail_length parent mask zero i = refl
+trail_length parent mask (suc k) i = simp length-append (let h = trail_length parent mask k (parent i) in omega arith)
 
 -- a trail from below n depends on the slots below n alone
-pub trail-same : {M : Type 0} {parent parent' : ℕ → ℕ} {mask mask' : ℕ → M} {n : ℕ}
+pub trail_same : {M : Type 0} {parent parent' : ℕ → ℕ} {mask mask' : ℕ → M} {n : ℕ}
     → ((i : ℕ) → i < n → parent' i ≡ parent i) → ((i : ℕ) → i < n → mask' i ≡ mask i) → ((i : ℕ) → i < n → parent i < n)
     → (k i : ℕ) → i < n → trail parent' mask' k i ≡ trail parent mask k i
-trail-same ps ms low zero i h = refl
-trail-same {parent} {parent'} {mask} {mask'} ps ms low (suc k) i h = rw (ps i h, ms i h, trail-same ps ms low k (parent i) (low i h))
+trail_same ps ms low zero i h = refl
+trail_same {parent} {parent'} {mask} {mask'} ps ms low (suc k) i h = rw (ps i h, ms i h, trail_same ps ms low k (parent i) (low i h))
 
 module _ (sys : System) where
   open sys use {State, Mask, start, step}
 
   -- the start has its trail, of no masks
-  pub trailed-start : (at : ℕ → State) (parent : ℕ → ℕ) (mask : ℕ → Mask) → at 0 ≡ start → Trailed sys at parent mask 0 1 0
-  trailed-start at parent mask e i l h = let z : i ≡ 0 = omega arith in rw (z, e)
+  pub trailed_start : (at : ℕ → State) (parent : ℕ → ℕ) (mask : ℕ → Mask) → at 0 ≡ start → Trailed sys at parent mask 0 1 0
+  trailed_start at parent mask e i l h = let z : i ≡ 0 = omega arith in rw (z, e)
 
   -- a level that is stored has its trails
-  pub trailed-next : {at : ℕ → State} {parent : ℕ → ℕ} {mask : ℕ → Mask} {lo hi n d : ℕ} → Grown sys at parent mask lo hi n d → Trailed sys at parent mask hi n (suc d)
-  trailed-next {at} {parent} {mask} {lo} {hi} {n} {d} g i l h =
-      reach-snoc sys (trail parent mask d (parent i)) (mask i)
+  pub trailed_next : {at : ℕ → State} {parent : ℕ → ℕ} {mask : ℕ → Mask} {lo hi n d : ℕ} → Grown sys at parent mask lo hi n d → Trailed sys at parent mask hi n (suc d)
+  trailed_next {at} {parent} {mask} {lo} {hi} {n} {d} g i l h =
+      reach_snoc sys (trail parent mask d (parent i)) (mask i)
       (g.level (parent i) (g.from i l h) (g.below i l h)) (g.gives i l h)
 
   -- nothing is stored yet
-  pub grown-open : {at : ℕ → State} {parent : ℕ → ℕ} {mask : ℕ → Mask} {lo hi d : ℕ} → ((i : ℕ) → i < hi → parent i < hi) → Trailed sys at parent mask lo hi d → Grown sys at parent mask lo hi hi d
-  grown-open low t = record {
+  pub grown_open : {at : ℕ → State} {parent : ℕ → ℕ} {mask : ℕ → Mask} {lo hi d : ℕ} → ((i : ℕ) → i < hi → parent i < hi) → Trailed sys at parent mask lo hi d → Grown sys at parent mask lo hi hi d
+  grown_open low t = record {
     order = omega arith;
     low = low;
     level = t;
@@ -47,17 +47,17 @@ module _ (sys : System) where
   }
 
   -- a push keeps the trails, and the new slot's parent is of the level
-  pub grown-push : {at at' : ℕ → State} {parent parent' : ℕ → ℕ} {mask mask' : ℕ → Mask} {lo hi n d : ℕ} → Grown sys at parent mask lo hi n d
+  pub grown_push : {at at' : ℕ → State} {parent parent' : ℕ → ℕ} {mask mask' : ℕ → Mask} {lo hi n d : ℕ} → Grown sys at parent mask lo hi n d
       → ((i : ℕ) → i < n → at' i ≡ at i) → ((i : ℕ) → i < n → parent' i ≡ parent i) → ((i : ℕ) → i < n → mask' i ≡ mask i)
       → lo ≤ parent' n → parent' n < hi → step (at (parent' n)) (mask' n) ≡ Next (at' n)
       → Grown sys at' parent' mask' lo hi (suc n) d
-  grown-push {at} {at'} {parent} {parent'} {mask} {mask'} {lo} {hi} {n} {d} g ss ps ms l h e = record {
+  grown_push {at} {at'} {parent} {parent'} {mask} {mask'} {lo} {hi} {n} {d} g ss ps ms l h e = record {
     order = (let o = g.order in omega arith);
     low = λ i b. rw (ps i (up i b)) (g.low i b);
-    level = λ i a b. rw (ss i (up i b), trail-same (λ j q. ps j (up j q)) (λ j q. ms j (up j q)) g.low d i b) (g.level i a b);
-    from = λ i a b. from' i a (split-last b);
-    below = λ i a b. below' i a (split-last b);
-    gives = λ i a b. gives' i a (split-last b);
+    level = λ i a b. rw (ss i (up i b), trail_same (λ j q. ps j (up j q)) (λ j q. ms j (up j q)) g.low d i b) (g.level i a b);
+    from = λ i a b. from' i a (split_last b);
+    below = λ i a b. below' i a (split_last b);
+    gives = λ i a b. gives' i a (split_last b);
   }
     where
       up : (i : ℕ) → i < hi → i < n

@@ -12,10 +12,10 @@ count_of (Safe n) = n
 count_of (NoRoom n) = n
 
 -- how many masks an answer gives
-abbrev pub masksOf : Answer → ℕ
-masksOf (Unsafe L n) = L
-masksOf (Safe n) = 0
-masksOf (NoRoom n) = 0
+abbrev pub masks_of : Answer → ℕ
+masks_of (Unsafe L n) = L
+masks_of (Safe n) = 0
+masks_of (NoRoom n) = 0
 
 module _ (sys : System) where
   open sys use {State, Mask, start, step}
@@ -24,8 +24,8 @@ module _ (sys : System) where
   -- under the mask gives its state". Which mask is mask 0 is the caller's to say: zeroth.
   pub record SlotRule (at : ℕ → State) (parent : ℕ → ℕ) (mask : ℕ → Mask) (zeroth : Mask) (n : ℕ) : Type 0 where
     pub root : at 0 ≡ start
-    pub root-parent : parent 0 ≡ 0
-    pub root-mask : mask 0 ≡ zeroth
+    pub root_parent : parent 0 ≡ 0
+    pub root_mask : mask 0 ≡ zeroth
     pub earlier : (i : ℕ) → 0 < i → i < n → parent i < i
     pub gives : (i : ℕ) → 0 < i → i < n → step (at (parent i)) (mask i) ≡ Next (at i)
 

@@ -22,22 +22,22 @@ pub data Replay (S : Type 0) : Type 0 where
   RefusedAt : ℕ → Replay S
 
 -- after k ticks one more is answered: go on from its state, or stop with its number, later masks unread
-abbrev pub goOn : {S : Type 0} → ℕ → Tick S → (S → Replay S) → Replay S
-goOn k (Next s) go = go s
-goOn k (Missed s) go = MissedAt (suc k) s
-goOn k Refused go = RefusedAt (suc k)
+abbrev pub go_on : {S : Type 0} → ℕ → Tick S → (S → Replay S) → Replay S
+go_on k (Next s) go = go s
+go_on k (Missed s) go = MissedAt (suc k) s
+go_on k Refused go = RefusedAt (suc k)
 
 module _ (sys : System) where
   open sys use {State, Mask, start, step}
 
   -- a list played from s, after k ticks. A list is any finite series of masks, legal or not; its ticks are its length, read or unread
-  abbrev pub replayFrom : ℕ → State → List Mask → Replay State
-  replayFrom k s [] = Kept s
-  replayFrom k s (m ∷ ms) = goOn k (step s m) (λ t. replayFrom (suc k) t ms)
+  abbrev pub replay_from : ℕ → State → List Mask → Replay State
+  replay_from k s [] = Kept s
+  replay_from k s (m ∷ ms) = go_on k (step s m) (λ t. replay_from (suc k) t ms)
 
   -- a list played from the start state, first tick 1
   abbrev pub replay : List Mask → Replay State
-  replay l = replayFrom 0 start l
+  replay l = replay_from 0 start l
 
   -- "a list reaches a state when its answer is Kept with that state"
   abbrev pub Reaches : List Mask → State → Type 0
@@ -154,5 +154,5 @@ module _ (sys : System) where
   pub record Verdict (K : ℕ) (a : Answer) (trace : List Mask) : Type 0 where
     pub unsafe : IsUnsafe a ↔ UnsafeIf K
     pub safe : IsSafe a ↔ SafeIf K
-    pub noRoom : IsNoRoom a ↔ (¬ UnsafeIf K × ¬ SafeIf K)
+    pub no_room : IsNoRoom a ↔ (¬ UnsafeIf K × ¬ SafeIf K)
     pub report : Report K a trace

@@ -1,8 +1,8 @@
 // The lines of an answer: its first line, and under Unsafe one mask a line.
 ghost use Rattle.std.specs.Prelude.{◌≡◌, List, ℕ, ◌+◌, ◌*◌, ◌≤◌, leb, length, take};
 ghost use Rattle.std.proofs.lemmas.List.Edits.{sets};
-ghost use Rattle.tasks.specs.Answers.{writingAnswer};
-ghost use Rattle.lines.specs.Lines.{firstLine, maskLines, masksGiven, lines_of, linesWriting, linesOut};
+ghost use Rattle.tasks.specs.Answers.{writing_answer};
+ghost use Rattle.lines.specs.Lines.{first_line, mask_lines, masks_given, lines_of, lines_writing, lines_out};
 
 use crate::decimal::{decimal_len, put_line, put_word};
 use search::SearchAnswer;
@@ -10,7 +10,7 @@ use tasks::{Writing, wide};
 
 // The length of the first line.
 fn first_len(a: SearchAnswer) -> usize
-    ensures { (result ≡ length (firstLine a)) × (result ≤ 60) }
+    ensures { (result ≡ length (first_line a)) × (result ≤ 60) }
 {
     match a {
         SearchAnswer::Safe(n) => 5 + decimal_len(n) + 1,
@@ -22,8 +22,8 @@ fn first_len(a: SearchAnswer) -> usize
 
 // Writes the first line at the front, and answers the place after it.
 fn put_first(out: &mut [u8], a: SearchAnswer) -> usize
-    requires { length (firstLine a) ≤ length out.old }
-    ensures { (result ≡ length (firstLine a)) × (out.new ≡ sets out.old 0 (firstLine a)) }
+    requires { length (first_line a) ≤ length out.old }
+    ensures { (result ≡ length (first_line a)) × (out.new ≡ sets out.old 0 (first_line a)) }
 {
     match a {
         SearchAnswer::Safe(n) => put_line(out, 0, b"safe ", n),
@@ -38,7 +38,7 @@ fn put_first(out: &mut [u8], a: SearchAnswer) -> usize
 
 // Whether the masks' lines fit into so many bytes.
 fn masks_fit(masks: &[u8], room: usize) -> bool
-    ensures { result ≡ leb (length (maskLines masks.now)) room }
+    ensures { result ≡ leb (length (mask_lines masks.now)) room }
 {
     let mut left = room;
     let mut i: usize = 0;
@@ -55,8 +55,8 @@ fn masks_fit(masks: &[u8], room: usize) -> bool
 
 // Writes the masks' lines, and answers the place after them.
 fn put_masks(out: &mut [u8], from: usize, masks: &[u8]) -> usize
-    requires { from + length (maskLines masks.now) ≤ length out.old }
-    ensures { (result ≡ from + length (maskLines masks.now)) × (out.new ≡ sets out.old from (maskLines masks.now)) }
+    requires { from + length (mask_lines masks.now) ≤ length out.old }
+    ensures { (result ≡ from + length (mask_lines masks.now)) × (out.new ≡ sets out.old from (mask_lines masks.now)) }
 {
     let mut at = from;
     let mut i: usize = 0;
@@ -69,7 +69,7 @@ fn put_masks(out: &mut [u8], from: usize, masks: &[u8]) -> usize
 
 // How many masks of a trace space of n bytes an answer gives.
 fn mask_count(a: SearchAnswer, n: usize) -> usize
-    ensures { (result ≤ n) × ((trace : List ℕ) → length trace ≡ n → take result trace ≡ masksGiven a trace) }
+    ensures { (result ≤ n) × ((trace : List ℕ) → length trace ≡ n → take result trace ≡ masks_given a trace) }
 {
     match a {
         SearchAnswer::Unsafe(l, _) => { if l < n { l } else { n } }
@@ -82,7 +82,7 @@ fn mask_count(a: SearchAnswer, n: usize) -> usize
 // Writes the lines of an answer to the front of the output, where they fit, and says how long they can be: a number has at most
 // twenty digits, and a mask's line at most four bytes.
 pub(crate) fn put_lines(a: SearchAnswer, trace: &[u8], out: &mut [u8]) -> Writing
-    ensures { (result ≡ linesWriting a trace.now out.old) × (out.new ≡ linesOut a trace.now out.old) × (length (lines_of a trace.now) ≤ 60 + 4 * length trace.now) }
+    ensures { (result ≡ lines_writing a trace.now out.old) × (out.new ≡ lines_out a trace.now out.old) × (length (lines_of a trace.now) ≤ 60 + 4 * length trace.now) }
 {
     let k = mask_count(a, trace.len());
     let masks = &trace[..k];
@@ -99,7 +99,7 @@ pub(crate) fn put_lines(a: SearchAnswer, trace: &[u8], out: &mut [u8]) -> Writin
 
 // Writes the lines of an answer to the front of the output, where they fit.
 pub fn write_lines(a: SearchAnswer, trace: &[u8], out: &mut [u8]) -> Writing
-    ensures { (writingAnswer result ≡ writingAnswer (linesWriting a trace.now out.old)) × (out.new ≡ linesOut a trace.now out.old) }
+    ensures { (writing_answer result ≡ writing_answer (lines_writing a trace.now out.old)) × (out.new ≡ lines_out a trace.now out.old) }
 {
     put_lines(a, trace, out)
 }

@@ -38,17 +38,17 @@ pub or_cases : {X : Type 0} (a b : Bool) → a || b ≡ true → (a ≡ true →
 or_cases true b e f g = f refl
 or_cases false b e f g = g refl e
 
-pub nor-left : (a b : Bool) → a || b ≡ false → a ≡ false
-nor-left true b e = e
-nor-left false b e = refl
+pub nor_left : (a b : Bool) → a || b ≡ false → a ≡ false
+nor_left true b e = e
+nor_left false b e = refl
 
-pub nor-right : (a b : Bool) → a || b ≡ false → b ≡ false
-nor-right true b e = clash refl e
-nor-right false b e = e
+pub nor_right : (a b : Bool) → a || b ≡ false → b ≡ false
+nor_right true b e = clash refl e
+nor_right false b e = e
 
 pub not_yes : {a : Bool} → a ≡ false → not a ≡ true
 not_yes e = rw e
 
-pub not-no : (a : Bool) → not a ≡ true → a ≡ false
-not-no true e = sym e
-not-no false e = refl
+pub not_no : (a : Bool) → not a ≡ true → a ≡ false
+not_no true e = sym e
+not_no false e = refl

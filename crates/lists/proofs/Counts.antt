@@ -8,18 +8,18 @@ use native.Mathlib.Decide.{ℕ_discrete}
 use lib.Dec.{ltb}
 use borrow.Author.Tests.{ltb-true, ltb-false}
 use Rattle.lists.specs.Lists.{pick, count, any}
-use Rattle.lists.proofs.Bools.{by_bool, clash, or_left, or_right, or_cases, nor-left, nor-right}
+use Rattle.lists.proofs.Bools.{by_bool, clash, or_left, or_right, or_cases, nor_left, nor_right}
 
-pick-le : (a b : Bool) → (a ≡ true → b ≡ true) → pick a 1 0 ≤ pick b 1 0
-pick-le true b f = rw (f refl) (omega arith)
-pick-le false b f = omega arith
+pick_le : (a b : Bool) → (a ≡ true → b ≡ true) → pick a 1 0 ≤ pick b 1 0
+pick_le true b f = rw (f refl) (omega arith)
+pick_le false b f = omega arith
 
 -- q holds wherever p does
-pub count-mono : (p q : ℕ → Bool) (n : ℕ) → ((k : ℕ) → k < n → p k ≡ true → q k ≡ true) → count n p ≤ count n q
+pub count_mono : (p q : ℕ → Bool) (n : ℕ) → ((k : ℕ) → k < n → p k ≡ true → q k ≡ true) → count n p ≤ count n q
 unfolding count
-count-mono p q zero f = omega arith
-count-mono p q (suc n) f =
-    omega (arith, count-mono p q n (λ k h. f k (omega arith)), pick-le (p n) (q n) (f n (omega arith)))
+count_mono p q zero f = omega arith
+count_mono p q (suc n) f =
+    omega (arith, count_mono p q n (λ k h. f k (omega arith)), pick_le (p n) (q n) (f n (omega arith)))
 
 -- q holds wherever p does, but perhaps at x
 pub count-but-one :
@@ -30,10 +30,10 @@ count-but-one p q x (suc n) f =
     elim (ℕ_discrete n x) [
       | yes e ↦
           omega
-          (arith, count-mono p q n (λ k h. f k (omega arith) (λ g. omega arith)), pick-le (p n) true (λ g. refl))
+          (arith, count_mono p q n (λ k h. f k (omega arith) (λ g. omega arith)), pick_le (p n) true (λ g. refl))
       | no d ↦
           omega
-          (arith, count-but-one p q x n (λ k h. f k (omega arith)), pick-le (p n) (q n) (f n (omega arith) d))
+          (arith, count-but-one p q x n (λ k h. f k (omega arith)), pick_le (p n) (q n) (f n (omega arith) d))
     ]
 
 -- p and q agree
@@ -43,10 +43,10 @@ count_same p q zero f = refl
 count_same p q (suc n) f = rw (count_same p q n (λ k h. f k (omega arith)), f n (omega arith))
 
 -- where no number passes, the count is 0
-pub count-zero : (p : ℕ → Bool) (n : ℕ) → ((k : ℕ) → k < n → p k ≡ false) → count n p ≡ 0
+pub count_zero : (p : ℕ → Bool) (n : ℕ) → ((k : ℕ) → k < n → p k ≡ false) → count n p ≡ 0
 unfolding count
-count-zero p zero f = refl
-count-zero p (suc n) f = rw (count-zero p n (λ k h. f k (omega arith)), f n (omega arith))
+count_zero p zero f = refl
+count_zero p (suc n) f = rw (count_zero p n (λ k h. f k (omega arith)), f n (omega arith))
 
 -- where no number passes, k does not
 pub any_false : (p : ℕ → Bool) (n k : ℕ) → any n p ≡ false → k < n → p k ≡ false
@@ -54,8 +54,8 @@ unfolding any
 any_false p zero k e h = absurd (omega arith)
 any_false p (suc n) k e h =
     elim (ℕ_discrete k n) [
-      | yes q ↦ rw q (nor-right (any n p) (p n) e)
-      | no q ↦ any_false p n k (nor-left (any n p) (p n) e) (omega arith)
+      | yes q ↦ rw q (nor_right (any n p) (p n) e)
+      | no q ↦ any_false p n k (nor_left (any n p) (p n) e) (omega arith)
     ]
 
 -- and back
@@ -70,13 +70,13 @@ any_same p q zero f = refl
 any_same p q (suc n) f = rw (any_same p q n (λ k h. f k (omega arith)), f n (omega arith))
 
 -- where k passes, some number does
-pub some-any : (p : ℕ → Bool) (n k : ℕ) → k < n → p k ≡ true → any n p ≡ true
+pub some_any : (p : ℕ → Bool) (n k : ℕ) → k < n → p k ≡ true → any n p ≡ true
 unfolding any
-some-any p zero k h e = absurd (omega arith)
-some-any p (suc n) k h e =
+some_any p zero k h e = absurd (omega arith)
+some_any p (suc n) k h e =
     elim (ℕ_discrete k n) [
       | yes q ↦ or_right (any n p) (rw q at e)
-      | no q ↦ or_left (p n) (some-any p n k (omega arith) e)
+      | no q ↦ or_left (p n) (some_any p n k (omega arith) e)
     ]
 
 -- where some number passes, there is one
@@ -95,10 +95,10 @@ unfolding count
 count_less p q x zero l f a b = absurd (omega arith)
 count_less p q x (suc n) l f a b =
     elim (ℕ_discrete x n) [
-      | yes e ↦ rw (sym e, a, b) (omega (arith, count-mono p q x (λ k h. f k (omega arith))))
+      | yes e ↦ rw (sym e, a, b) (omega (arith, count_mono p q x (λ k h. f k (omega arith))))
       | no d ↦
           omega
-          (arith, count_less p q x n (omega arith) (λ k h. f k (omega arith)) a b, pick-le (p n) (q n) (f n (omega arith)))
+          (arith, count_less p q x n (omega arith) (λ k h. f k (omega arith)) a b, pick_le (p n) (q n) (f n (omega arith)))
     ]
 
 -- p and q agree but at x, where q alone holds
@@ -122,16 +122,16 @@ pub record Least (f : ℕ → ℕ) (p : ℕ → Bool) (n x : ℕ) : Type 0 where
   pub least : (k : ℕ) → k < n → p k ≡ true → f x ≤ f k
 
 module _ (f : ℕ → ℕ) (p : ℕ → Bool) where
-  least-keeps : {n x : ℕ} → Least f p n x → (p n ≡ true → f x ≤ f n) → Least f p (suc n) x
-  least-keeps {n} {x} l g =
+  least_keeps : {n x : ℕ} → Least f p n x → (p n ≡ true → f x ≤ f n) → Least f p (suc n) x
+  least_keeps {n} {x} l g =
       record {
         below = omega (arith, l.below);
         holds = l.holds;
         least = λ k h e. elim (ℕ_discrete k n) [ yes q ↦ rw q (g (rw q at e)) | no q ↦ l.least k (omega arith) e ];
       }
 
-  least-moves : {n x : ℕ} → p n ≡ true → Least f p n x → f n ≤ f x → Least f p (suc n) n
-  least-moves {n} {x} e l g =
+  least_moves : {n x : ℕ} → p n ≡ true → Least f p n x → f n ≤ f x → Least f p (suc n) n
+  least_moves {n} {x} e l g =
       record {
         below = omega arith;
         holds = e;
@@ -139,17 +139,17 @@ module _ (f : ℕ → ℕ) (p : ℕ → Bool) where
       }
 
   -- no number below n passes, or there is one with the least f
-  pub least-of : (n : ℕ) → ((k : ℕ) → k < n → p k ≡ false) ⊎ ((x : ℕ) × Least f p n x)
-  least-of zero = inl (λ k h. absurd (omega arith))
-  least-of (suc n) =
+  pub least_of : (n : ℕ) → ((k : ℕ) → k < n → p k ≡ false) ⊎ ((x : ℕ) × Least f p n x)
+  least_of zero = inl (λ k h. absurd (omega arith))
+  least_of (suc n) =
       by_bool (p n)
       (λ e. ⊎_elim
       (λ none. inr (n, record { below = omega arith; holds = e; least = λ k h b. elim (ℕ_discrete k n) [ yes q ↦ rw q (omega arith) | no q ↦ clash b (none k (omega arith)) ] }))
       (λ l. by_bool (ltb (f n) (f l.0))
-      (λ b. inr (n, least-moves e l.1 (omega (arith, ltb-true (f n) (f l.0) b))))
-      (λ b. inr (l.0, least-keeps l.1 (λ q. ltb-false (f n) (f l.0) b))))
-      (least-of n))
+      (λ b. inr (n, least_moves e l.1 (omega (arith, ltb-true (f n) (f l.0) b))))
+      (λ b. inr (l.0, least_keeps l.1 (λ q. ltb-false (f n) (f l.0) b))))
+      (least_of n))
       (λ e. ⊎_elim
       (λ none. inl (λ k h. elim (ℕ_discrete k n) [ yes q ↦ rw q e | no q ↦ none k (omega arith) ]))
-      (λ l. inr (l.0, least-keeps l.1 (λ q. clash q e)))
-      (least-of n))
+      (λ l. inr (l.0, least_keeps l.1 (λ q. clash q e)))
+      (least_of n))

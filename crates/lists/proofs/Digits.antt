@@ -8,7 +8,7 @@ use native.Mathlib.Decide.{ℕ_discrete}
 use lib.Dec.{eqb}
 use lib.Pow.{pow_pos, pow_mono, high, low, field, mod-mod-pow}
 use Rattle.lists.specs.Lists.{pick, bits_of}
-use Rattle.lists.proofs.Turns.{bits-less}
+use Rattle.lists.proofs.Turns.{bits_less}
 
 weight : (b : Bool) (w : ℕ) → pick b w 0 ≡ pick b 1 0 * w
 weight true w = omega arith
@@ -33,7 +33,7 @@ module _ (p : ℕ → Bool) where
       let k = n - (1 + i) in
       let e : k + (1 + i) ≡ n = omega arith in
       digit_low (bits_of (suc n) p) i k
-      ∙ ap (λ y. y % 2 ^ (1 + i) / 2 ^ i) (ap (λ m. bits_of (suc n) p % 2 ^ m) e ∙ ap (λ y. y % 2 ^ n) (above n) ∙ low (pick (p n) 1 0) n (bits-less p n))
+      ∙ ap (λ y. y % 2 ^ (1 + i) / 2 ^ i) (ap (λ m. bits_of (suc n) p % 2 ^ m) e ∙ ap (λ y. y % 2 ^ n) (above n) ∙ low (pick (p n) 1 0) n (bits_less p n))
       ∙ field (bits_of n p) 1 i
 
   -- LAW: bit i of the number
@@ -41,15 +41,15 @@ module _ (p : ℕ → Bool) where
   bits_at zero i h = absurd (omega arith)
   bits_at (suc n) i h =
       elim (ℕ_discrete i n) [
-        | yes q ↦ rw (q, above n, high (pick (p n) 1 0) n (bits-less p n)) (is_one (p n))
+        | yes q ↦ rw (q, above n, high (pick (p n) 1 0) n (bits_less p n)) (is_one (p n))
         | no d ↦ ap (λ y. eqb y 1) (below n i (omega arith)) ∙ bits_at n i (omega arith)
       ]
 
 -- LAW: numbers of the same bits
-pub bits-same : (f g : ℕ → Bool) (n : ℕ) → ((i : ℕ) → i < n → f i ≡ g i) → bits_of n f ≡ bits_of n g
+pub bits_same : (f g : ℕ → Bool) (n : ℕ) → ((i : ℕ) → i < n → f i ≡ g i) → bits_of n f ≡ bits_of n g
 unfolding bits_of
-bits-same f g zero h = refl
-bits-same f g (suc n) h = rw (bits-same f g n (λ i k. h i (omega arith)), h n (omega arith))
+bits_same f g zero h = refl
+bits_same f g (suc n) h = rw (bits_same f g n (λ i k. h i (omega arith)), h n (omega arith))
 
 -- ---- the lowest k bits of a number
 
@@ -67,7 +67,7 @@ pub high_digit : (x k i : ℕ) → k ≤ i → x % 2 ^ k / 2 ^ i % 2 ≡ 0
 high_digit x k i h = ap (λ y. y % 2) (div-eq_of_lt (lt_of_lt_of_le (mod-lt x (pow_pos k)) (pow_mono h)))
 
 -- LAW: those of the lowest k are the number's
-pub low-low : (x k j : ℕ) → j ≤ k → x % 2 ^ k % 2 ^ j ≡ x % 2 ^ j
-low-low x k j h =
+pub low_low : (x k j : ℕ) → j ≤ k → x % 2 ^ k % 2 ^ j ≡ x % 2 ^ j
+low_low x k j h =
     let e : k ≡ k - j + j = omega arith in
     ap (λ n. x % 2 ^ n % 2 ^ j) e ∙ mod-mod-pow x (k - j) j

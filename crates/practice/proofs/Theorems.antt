@@ -7,61 +7,61 @@ use lib.ListN.{length}
 use Rattle.lists.proofs.Bools.{by_bool}
 use Rattle.lists.proofs.Counts.{none_any}
 use Rattle.lists.proofs.Fill.{front_at}
-use Rattle.tasks.specs.Table.{faultAt, tableFault}
-use Rattle.tasks.specs.Sheet.{refusedWith, acceptedAs, sheetOf, sheetBytes}
+use Rattle.tasks.specs.Table.{fault_at, table_fault}
+use Rattle.tasks.specs.Sheet.{refused_with, accepted_as, sheet_of, sheet_bytes}
 use Rattle.tasks.specs.declared.sheet.Reading.TheVariants as Reading
-use Rattle.tasks.proofs.Answers.{unless-refused, unless-none, refused-unless, accepted-unless}
-use Rattle.tasks.proofs.Tables.{task-fits}
-use Rattle.tasks.proofs.Sheets.{sheet-short}
+use Rattle.tasks.proofs.Answers.{unless_refused_lem, unless_none, refused_unless, accepted_unless}
+use Rattle.tasks.proofs.Tables.{task_fits}
+use Rattle.tasks.proofs.Sheets.{sheet_short}
 use Rattle.tasks.proofs.RoundTrip.{Eight, write_read}
-use Rattle.practice.specs.Practice.{gapDrawn, deadlineDrawn, workDrawn, practiceTable, practiceRefusal, practiceOf}
-use Rattle.practice.proofs.DrawLaws.{drawn-fits}
+use Rattle.practice.specs.Practice.{gap_drawn, deadline_drawn, work_drawn, practice_table, practice_refusal, practice_of}
+use Rattle.practice.proofs.DrawLaws.{drawn_fits}
 
 module _ (policy m n s : ℕ) where
   -- no task breaks the rule, and the entries after the nth are 0
-  no-fault : (i : ℕ) → i < 8 → faultAt (practiceTable policy m n s) i ≡ false
-  unfolding practiceTable faultAt
-  no-fault i h =
-      rw (front_at n (λ k. workDrawn k s) i h, front_at n (λ k. deadlineDrawn k s) i h, front_at n (λ k. gapDrawn k s) i h)
-      (by_bool (ltb i n) (λ e. rw e (task-fits (drawn-fits i s))) (λ e. rw e))
+  no_fault : (i : ℕ) → i < 8 → fault_at (practice_table policy m n s) i ≡ false
+  unfolding practice_table fault_at
+  no_fault i h =
+      rw (front_at n (λ k. work_drawn k s) i h, front_at n (λ k. deadline_drawn k s) i h, front_at n (λ k. gap_drawn k s) i h)
+      (by_bool (ltb i n) (λ e. rw e (task_fits (drawn_fits i s))) (λ e. rw e))
 
   -- THEOREM: for any four numbers the judge of tables refuses with 4, 5 or 6 by the first three, or not at all
-  pub practice-fault : tableFault (practiceTable policy m n s) ≡ practiceRefusal policy m n
-  unfolding tableFault practiceRefusal practiceTable
-  practice-fault = rw (none_any (faultAt (practiceTable policy m n s)) 8 no-fault)
+  pub practice_fault : table_fault (practice_table policy m n s) ≡ practice_refusal policy m n
+  unfolding table_fault practice_refusal practice_table
+  practice_fault = rw (none_any (fault_at (practice_table policy m n s)) 8 no_fault)
 
   -- THEOREM: every table made is valid
-  pub practice-valid : practiceRefusal policy m n ≡ 0 → tableFault (practiceTable policy m n s) ≡ 0
-  practice-valid e = practice-fault ∙ e
+  pub practice_valid : practice_refusal policy m n ≡ 0 → table_fault (practice_table policy m n s) ≡ 0
+  practice_valid e = practice_fault ∙ e
 
   -- what the call answers, by what the judge says of the table
-  pub practice-refused : {r : ℕ} → 0 < r → r ≡ tableFault (practiceTable policy m n s) → refusedWith r ≡ practiceOf policy m n s
-  unfolding practiceOf
-  practice-refused {r} h e =
-      let q : practiceRefusal policy m n ≡ r = sym (e ∙ practice-fault) in
-      rw q (unless-refused (practiceTable policy m n s) h)
+  pub practice_refused : {r : ℕ} → 0 < r → r ≡ table_fault (practice_table policy m n s) → refused_with r ≡ practice_of policy m n s
+  unfolding practice_of
+  practice_refused {r} h e =
+      let q : practice_refusal policy m n ≡ r = sym (e ∙ practice_fault) in
+      rw q (unless_refused_lem (practice_table policy m n s) h)
 
-  pub practice-made : tableFault (practiceTable policy m n s) ≡ 0 → acceptedAs (practiceTable policy m n s) ≡ practiceOf policy m n s
-  unfolding practiceOf
-  practice-made e = unless-none (practiceTable policy m n s) (sym practice-fault ∙ e)
+  pub practice_made : table_fault (practice_table policy m n s) ≡ 0 → accepted_as (practice_table policy m n s) ≡ practice_of policy m n s
+  unfolding practice_of
+  practice_made e = unless_none (practice_table policy m n s) (sym practice_fault ∙ e)
 
   -- and back: a refusal is that of the first three numbers, and a table that is made is the practice table
-  pub answer-refused : {r : ℕ} → (practiceOf policy m n s).answer ≡ Reading.Refused r → (0 < r) × (practiceRefusal policy m n ≡ r)
-  unfolding practiceOf
-  answer-refused e = refused-unless (practiceRefusal policy m n) (practiceTable policy m n s) e
+  pub answer_refused : {r : ℕ} → (practice_of policy m n s).answer ≡ Reading.Refused r → (0 < r) × (practice_refusal policy m n ≡ r)
+  unfolding practice_of
+  answer_refused e = refused_unless (practice_refusal policy m n) (practice_table policy m n s) e
 
-  pub answer-made : (practiceOf policy m n s).answer ≡ Reading.Accepted → (practiceOf policy m n s).table ≡ practiceTable policy m n s
-  unfolding practiceOf
-  answer-made e = (accepted-unless (practiceRefusal policy m n) (practiceTable policy m n s) e).1
+  pub answer_made : (practice_of policy m n s).answer ≡ Reading.Accepted → (practice_of policy m n s).table ≡ practice_table policy m n s
+  unfolding practice_of
+  answer_made e = (accepted_unless (practice_refusal policy m n) (practice_table policy m n s) e).1
 
-  practice-eight : Eight (practiceTable policy m n s)
-  unfolding practiceTable
-  practice-eight = record { work = refl; deadline = refl; gap = refl }
+  practice_eight : Eight (practice_table policy m n s)
+  unfolding practice_table
+  practice_eight = record { work = refl; deadline = refl; gap = refl }
 
   -- THEOREM: the sheet of every table made fits 52 bytes, so it can be written
-  pub practice-short : practiceRefusal policy m n ≡ 0 → length (sheetBytes (practiceTable policy m n s)) ≤ 52
-  practice-short e = sheet-short (practiceTable policy m n s) (practice-valid e)
+  pub practice_short : practice_refusal policy m n ≡ 0 → length (sheet_bytes (practice_table policy m n s)) ≤ 52
+  practice_short e = sheet_short (practice_table policy m n s) (practice_valid e)
 
   -- THEOREM: and is read as that table
-  pub practice-read : practiceRefusal policy m n ≡ 0 → sheetOf (sheetBytes (practiceTable policy m n s)) ≡ acceptedAs (practiceTable policy m n s)
-  practice-read e = write_read (practiceTable policy m n s) practice-eight (practice-valid e)
+  pub practice_read : practice_refusal policy m n ≡ 0 → sheet_of (sheet_bytes (practice_table policy m n s)) ≡ accepted_as (practice_table policy m n s)
+  practice_read e = write_read (practice_table policy m n s) practice_eight (practice_valid e)

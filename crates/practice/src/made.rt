@@ -1,8 +1,8 @@
 // The table that is made of the draws, and its refusals.
 ghost use Rattle.std.specs.Prelude.{◌≡◌, ltb};
 ghost use Rattle.lists.specs.Lists.{pick};
-ghost use Rattle.tasks.specs.Answers.{sheetAnswer};
-ghost use Rattle.practice.specs.Practice.{practiceTable, practiceOf};
+ghost use Rattle.tasks.specs.Answers.{sheet_answer};
+ghost use Rattle.practice.specs.Practice.{practice_table, practice_of};
 
 use crate::draws::{drawn, task_of};
 use tasks::{Reading, Sheet, Table};
@@ -16,7 +16,7 @@ fn entries(n: u8) -> usize
 
 // The table of the first n tasks, for any policy, m and n.
 fn draw_table(policy: u8, m: u8, n: u8, seed: u16) -> Table
-    ensures { result ≡ practiceTable policy m n seed }
+    ensures { result ≡ practice_table policy m n seed }
 {
     let count = entries(n);
     let mut t = Table {
@@ -45,7 +45,7 @@ fn draw_table(policy: u8, m: u8, n: u8, seed: u16) -> Table
 
 // The practice table of policy, m, n and a seed, or the refusal of one of the first three. It is judged as every table is.
 pub fn practice_table(policy: u8, m: u8, n: u8, seed: u16) -> Sheet
-    ensures { (sheetAnswer result ≡ sheetAnswer (practiceOf policy m n seed)) × (result.table ≡ (practiceOf policy m n seed).table) }
+    ensures { (sheet_answer result ≡ sheet_answer (practice_of policy m n seed)) × (result.table ≡ (practice_of policy m n seed).table) }
 {
     let table = draw_table(policy, m, n, seed);
     let fault = table.fault();

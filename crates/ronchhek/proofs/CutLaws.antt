@@ -5,65 +5,65 @@ use mathlib.Core.List.{List}
 use lib.ListN.{length, take, drop}
 use lib.Seq.{take_at}
 use borrow.Author.Tests.{lt-ltb, le-ltb}
-use Rattle.tasks.specs.Sheet.{acceptedAs, sheetOf, sheetBytes, writeRefusal, writeOut}
+use Rattle.tasks.specs.Sheet.{accepted_as, sheet_of, sheet_bytes, write_refusal, write_out}
 use Rattle.tasks.specs.declared.table.Table.{Table}
 use Rattle.tasks.specs.declared.sheet.Reading.TheVariants as Reading
-use Rattle.cut.specs.Cut.{cutTable, cutRefusal, cut_of}
-use Rattle.cut.proofs.TableLaws.{not-cut-refused, cut-valid, cut-read, answer-refused, answer-accepted}
-use Rattle.ronchhek.specs.Tables.{sheetNumber}
-use Rattle.ronchhek.specs.Cuts.{firstNumber, firstSpace, cutNumber, cutSpace}
+use Rattle.cut.specs.Cut.{cut_table, cut_refusal, cut_of}
+use Rattle.cut.proofs.TableLaws.{not_cut_refused, cut_valid, cut_read, answer_refused, answer_accepted}
+use Rattle.ronchhek.specs.Tables.{sheet_number}
+use Rattle.ronchhek.specs.Cuts.{first_number, first_space, cut_number, cut_space}
 
 module _ (t : Table) (k : ℕ) (out : List ℕ) where
   -- the table is not cut
-  pub first-refused : {r : ℕ} → (cut_of t k).answer ≡ Reading.Refused r → (r ≡ firstNumber t k out) × (out ≡ firstSpace t k out)
-  unfolding firstNumber firstSpace
-  first-refused {r} e =
-      let a = answer-refused t k e in
+  pub first_refused : {r : ℕ} → (cut_of t k).answer ≡ Reading.Refused r → (r ≡ first_number t k out) × (out ≡ first_space t k out)
+  unfolding first_number first_space
+  first_refused {r} e =
+      let a = answer_refused t k e in
       let l = lt-ltb 0 r a.0 in
       (rw (a.1, l), rw (a.1, l))
 
   -- the writer is given the cut table
   pub first-written :
-      (cut_of t k).answer ≡ Reading.Accepted → (sheetNumber (cut_of t k).table out ≡ firstNumber t k out) × (writeOut (cut_of t k).table out ≡ firstSpace t k out)
-  unfolding firstNumber firstSpace
-  first-written e = let a = answer-accepted t k e in (rw (a.1, a.0), rw (a.1, a.0))
+      (cut_of t k).answer ≡ Reading.Accepted → (sheet_number (cut_of t k).table out ≡ first_number t k out) × (write_out (cut_of t k).table out ≡ first_space t k out)
+  unfolding first_number first_space
+  first-written e = let a = answer_accepted t k e in (rw (a.1, a.0), rw (a.1, a.0))
 
-  module _ (none : cutRefusal t k ≡ 0) (room : length (sheetBytes (cutTable k t)) ≤ length out) where
+  module _ (none : cut_refusal t k ≡ 0) (room : length (sheet_bytes (cut_table k t)) ≤ length out) where
     -- the cut is valid, so the output's length is all that the writer asks of it
-    no-refusal : writeRefusal (cutTable k t) out ≡ 0
-    unfolding writeRefusal
-    no-refusal = rw (cut-valid t k (not-cut-refused t k none), le-ltb (length out) (length (sheetBytes (cutTable k t))) room)
+    no_refusal : write_refusal (cut_table k t) out ≡ 0
+    unfolding write_refusal
+    no_refusal = rw (cut_valid t k (not_cut_refused t k none), le-ltb (length out) (length (sheet_bytes (cut_table k t))) room)
 
-    first_done : firstNumber t k out ≡ 2 ^ 48 + length (sheetBytes (cutTable k t))
-    unfolding firstNumber sheetNumber
-    first_done = rw (none, no-refusal)
+    first_done : first_number t k out ≡ 2 ^ 48 + length (sheet_bytes (cut_table k t))
+    unfolding first_number sheet_number
+    first_done = rw (none, no_refusal)
 
-    first-front : take (length (sheetBytes (cutTable k t))) (firstSpace t k out) ≡ sheetBytes (cutTable k t)
-    unfolding firstSpace writeOut
-    first-front = rw (none, no-refusal) (take_at (sheetBytes (cutTable k t)) (drop (length (sheetBytes (cutTable k t))) out) (length (sheetBytes (cutTable k t))) refl)
+    first_front : take (length (sheet_bytes (cut_table k t))) (first_space t k out) ≡ sheet_bytes (cut_table k t)
+    unfolding first_space write_out
+    first_front = rw (none, no_refusal) (take_at (sheet_bytes (cut_table k t)) (drop (length (sheet_bytes (cut_table k t))) out) (length (sheet_bytes (cut_table k t))) refl)
 
 module _ (sheet : List ℕ) (k : ℕ) (out : List ℕ) where
   -- the sheet is refused
-  pub cut-refused : {r : ℕ} → (sheetOf sheet).answer ≡ Reading.Refused r → (r ≡ cutNumber sheet k out) × (out ≡ cutSpace sheet k out)
-  unfolding cutNumber cutSpace
-  cut-refused e = (rw e, rw e)
+  pub cut_refused : {r : ℕ} → (sheet_of sheet).answer ≡ Reading.Refused r → (r ≡ cut_number sheet k out) × (out ≡ cut_space sheet k out)
+  unfolding cut_number cut_space
+  cut_refused e = (rw e, rw e)
 
-  module _ (e : (sheetOf sheet).answer ≡ Reading.Accepted) where
+  module _ (e : (sheet_of sheet).answer ≡ Reading.Accepted) where
     pub cut-first :
-        (firstNumber (sheetOf sheet).table k out ≡ cutNumber sheet k out) × (firstSpace (sheetOf sheet).table k out ≡ cutSpace sheet k out)
-    unfolding cutNumber cutSpace
+        (first_number (sheet_of sheet).table k out ≡ cut_number sheet k out) × (first_space (sheet_of sheet).table k out ≡ cut_space sheet k out)
+    unfolding cut_number cut_space
     cut-first = (rw e, rw e)
 
-    module _ (none : cutRefusal (sheetOf sheet).table k ≡ 0) (room : length (sheetBytes (cutTable k (sheetOf sheet).table)) ≤ length out) where
+    module _ (none : cut_refusal (sheet_of sheet).table k ≡ 0) (room : length (sheet_bytes (cut_table k (sheet_of sheet).table)) ≤ length out) where
       -- THEOREM: of a sheet that is accepted and a k from 1 to n, where the output has room: the number is kind 1 with the sheet's length
-      pub cut-done : cutNumber sheet k out ≡ 2 ^ 48 + length (sheetBytes (cutTable k (sheetOf sheet).table))
-      cut-done = sym cut-first.0 ∙ first_done (sheetOf sheet).table k out none room
+      pub cut_done : cut_number sheet k out ≡ 2 ^ 48 + length (sheet_bytes (cut_table k (sheet_of sheet).table))
+      cut_done = sym cut-first.0 ∙ first_done (sheet_of sheet).table k out none room
 
       -- THEOREM: and as many bytes of the output are read as the cut table
       pub cut_again :
-          sheetOf (take (length (sheetBytes (cutTable k (sheetOf sheet).table))) (cutSpace sheet k out)) ≡ acceptedAs (cutTable k (sheetOf sheet).table)
+          sheet_of (take (length (sheet_bytes (cut_table k (sheet_of sheet).table))) (cut_space sheet k out)) ≡ accepted_as (cut_table k (sheet_of sheet).table)
       cut_again =
-          let t = (sheetOf sheet).table in
-          ap (λ b. sheetOf (take (length (sheetBytes (cutTable k t))) b)) (sym cut-first.1)
-          ∙ ap sheetOf (first-front t k out none room)
-          ∙ cut-read t k (not-cut-refused t k none)
+          let t = (sheet_of sheet).table in
+          ap (λ b. sheet_of (take (length (sheet_bytes (cut_table k t))) b)) (sym cut-first.1)
+          ∙ ap sheet_of (first_front t k out none room)
+          ∙ cut_read t k (not_cut_refused t k none)

@@ -4,42 +4,42 @@ use mathlib.Core.Path.{◌≡◌, refl, sym, ap}
 use mathlib.Core.List.{List, [], ◌∷◌}
 use native.Mathlib.Omega.{arith}
 use lib.ListN.{get_or}
-use Rattle.closed.specs.Closed.{closedAnswer, sheetFileRefusal, SheetJudged}
+use Rattle.closed.specs.Closed.{closed_answer, sheet_file_refusal, SheetJudged}
 use Rattle.closed.specs.declared.check.ClosedAnswer.{ClosedAnswer}
 use Rattle.closed.specs.declared.check.ClosedAnswer.TheVariants as ClosedAnswer
 use Rattle.ronchhek.specs.Files.{FileJudged}
 
 -- the number of a file's answer
-abbrev pub closedNumber : ClosedAnswer → ℕ
-closedNumber ClosedAnswer.Accepted = 2 ^ 48
-closedNumber ClosedAnswer.No = 2 * 2 ^ 48
-closedNumber (ClosedAnswer.Refused r) = r
+abbrev pub closed_number : ClosedAnswer → ℕ
+closed_number ClosedAnswer.Accepted = 2 ^ 48
+closed_number ClosedAnswer.No = 2 * 2 ^ 48
+closed_number (ClosedAnswer.Refused r) = r
 
-one-two : (◌≡◌ {A = List ℕ} (1 ∷ []) (2 ∷ [])) → ⊥
-one-two e = let z : ◌≡◌ {A = ℕ} 1 2 = cc in omega arith
+one_two : (◌≡◌ {A = List ℕ} (1 ∷ []) (2 ∷ [])) → ⊥
+one_two e = let z : ◌≡◌ {A = ℕ} 1 2 = cc in omega arith
 
 zero_one : {r k : ℕ} → 0 < k → (◌≡◌ {A = List ℕ} (0 ∷ r ∷ []) (k ∷ [])) → ⊥
 zero_one h e = let z : ◌≡◌ {A = ℕ} 0 _ = ap (λ l. get_or l 0 0) e in omega arith
 
 -- LAW: an answer's number says what the answer does
-pub file-judged : (sheet file : List ℕ) (a : ClosedAnswer) → SheetJudged sheet file (closedAnswer a) → FileJudged sheet file (closedNumber a)
-unfolding closedAnswer
-file-judged sheet file ClosedAnswer.Accepted x = record {
+pub file_judged : (sheet file : List ℕ) (a : ClosedAnswer) → SheetJudged sheet file (closed_answer a) → FileJudged sheet file (closed_number a)
+unfolding closed_answer
+file_judged sheet file ClosedAnswer.Accepted x = record {
   refused = λ h. absurd (zero_one (omega arith) (sym (x.refused h)));
   accepted = λ z. (λ e. (x.accepted z).0 refl, λ c. refl);
-  no = λ z. (λ e. absurd (omega arith), λ c. absurd (one-two ((x.no z).1 c)));
+  no = λ z. (λ e. absurd (omega arith), λ c. absurd (one_two ((x.no z).1 c)));
 }
-file-judged sheet file ClosedAnswer.No x = record {
+file_judged sheet file ClosedAnswer.No x = record {
   refused = λ h. absurd (zero_one (omega arith) (sym (x.refused h)));
-  accepted = λ z. (λ e. absurd (omega arith), λ c. absurd (one-two (sym ((x.accepted z).1 c))));
+  accepted = λ z. (λ e. absurd (omega arith), λ c. absurd (one_two (sym ((x.accepted z).1 c))));
   no = λ z. (λ e. (x.no z).0 refl, λ c. refl);
 }
-file-judged sheet file (ClosedAnswer.Refused r) x = record {
+file_judged sheet file (ClosedAnswer.Refused r) x = record {
   refused = λ h. ap (λ l. get_or l 1 0) (x.refused h);
   accepted = λ z. absurd (no_answer z);
   no = λ z. absurd (no_answer z);
 }
   where
     -- a file that is not refused is closed or is not
-    no_answer : sheetFileRefusal sheet file ≡ 0 → ⊥
+    no_answer : sheet_file_refusal sheet file ≡ 0 → ⊥
     no_answer z = zero_one (omega arith) ((x.no z).1 (λ c. zero_one (omega arith) ((x.accepted z).1 c)))

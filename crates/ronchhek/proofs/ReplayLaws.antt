@@ -15,19 +15,19 @@ use Rattle.tasks.specs.declared.writer.Writing.TheVariants as Writing
 use Rattle.lists.specs.Lists.{pick}
 use Rattle.lists.proofs.Bools.{by_bool}
 use Rattle.tasks.specs.declared.play.Replayed.{Replayed}
-use Rattle.slots.specs.StateSpace.{stateSpace}
-use Rattle.ronchhek.specs.Replays.{refusedAt, outcomeNumber, tableNumber, tableSpace}
+use Rattle.slots.specs.StateSpace.{state_space}
+use Rattle.ronchhek.specs.Replays.{refused_at, outcome_number, table_number, table_space}
 
 -- the answer of a replay that is another
 pub told : {r q : Replayed} → r ≡ q → q.answer ≡ r.answer
 told e = ap (λ (x : Replayed). x.answer) (sym e)
 
 -- what is written to the front of a space: `size` bytes, or none where the space is shorter, and 12 says so
-abbrev pub frontWriting : ℕ → List ℕ → Writing
-frontWriting size space = pick (ltb (length space) size) (Writing.Refused 12) (Writing.Written size)
+abbrev pub front_writing : ℕ → List ℕ → Writing
+front_writing size space = pick (ltb (length space) size) (Writing.Refused 12) (Writing.Written size)
 
 module _ (size : ℕ) (space : List ℕ) where
-  pub not_written : {r : ℕ} → Writing.Refused r ≡ frontWriting size space → (length space < size) × (r ≡ 12)
+  pub not_written : {r : ℕ} → Writing.Refused r ≡ front_writing size space → (length space < size) × (r ≡ 12)
   not_written {r} e =
       by_bool (ltb (length space) size)
       (λ h. let q : Writing.Refused r ≡ Writing.Refused 12 = rw h at e in (ltb-true (length space) size h, cc))
@@ -35,8 +35,8 @@ module _ (size : ℕ) (space : List ℕ) where
       let q : Writing.Refused r ≡ Writing.Written size = rw h at e in
       absurd (let z : ◌≡◌ {A = ℕ} 0 1 = cc in omega arith))
 
-  pub written-room : {n : ℕ} → Writing.Written n ≡ frontWriting size space → size ≤ length space
-  written-room {n} e =
+  pub written_room : {n : ℕ} → Writing.Written n ≡ front_writing size space → size ≤ length space
+  written_room {n} e =
       by_bool (ltb (length space) size)
       (λ h.
       let q : Writing.Written n ≡ Writing.Refused 12 = rw h at e in
@@ -47,39 +47,39 @@ module _ (size : ℕ) (space : List ℕ) where
 
 module _ (size : ℕ) (t : Table) (list space : List ℕ) where
   -- more ticks than the answer has room for
-  pub long-number : 2 ^ 48 ≤ length list → refusedAt 12 0 ≡ tableNumber size t list space
-  unfolding tableNumber
-  long-number h = rw (le-leb (2 ^ 48) (length list) h)
+  pub long_number : 2 ^ 48 ≤ length list → refused_at 12 0 ≡ table_number size t list space
+  unfolding table_number
+  long_number h = rw (le-leb (2 ^ 48) (length list) h)
 
   module _ (short : length list < 2 ^ 48) where
     -- a tick was refused
-    pub refused-number : (r k : ℕ) → (replayed t list).answer ≡ Refused r k → refusedAt r k ≡ tableNumber size t list space
-    unfolding tableNumber
-    refused-number r k e = rw (lt-leb (2 ^ 48) (length list) short, e)
+    pub refused_number : (r k : ℕ) → (replayed t list).answer ≡ Refused r k → refused_at r k ≡ table_number size t list space
+    unfolding table_number
+    refused_number r k e = rw (lt-leb (2 ^ 48) (length list) short, e)
 
     module _ (o : Outcome) (played : (replayed t list).answer ≡ Played o) where
       -- the list was played, and there is no room for what is to be written
-      pub unwritten-number : length space < size → refusedAt 12 0 ≡ tableNumber size t list space
-      unfolding tableNumber
-      unwritten-number h = rw (lt-leb (2 ^ 48) (length list) short, played, lt-ltb (length space) size h)
+      pub unwritten_number : length space < size → refused_at 12 0 ≡ table_number size t list space
+      unfolding table_number
+      unwritten_number h = rw (lt-leb (2 ^ 48) (length list) short, played, lt-ltb (length space) size h)
 
       -- the list was played
-      pub played-number : size ≤ length space → outcomeNumber o ≡ tableNumber size t list space
-      unfolding tableNumber
-      played-number h = rw (lt-leb (2 ^ 48) (length list) short, played, le-ltb (length space) size h)
+      pub played_number : size ≤ length space → outcome_number o ≡ table_number size t list space
+      unfolding table_number
+      played_number h = rw (lt-leb (2 ^ 48) (length list) short, played, le-ltb (length space) size h)
 
 -- ---- the state in its space
 
 module _ (t : Table) (list space : List ℕ) where
-  pub long-space : 2 ^ 48 ≤ length list → space ≡ tableSpace t list space
-  unfolding tableSpace
-  long-space h = rw (le-leb (2 ^ 48) (length list) h)
+  pub long_space : 2 ^ 48 ≤ length list → space ≡ table_space t list space
+  unfolding table_space
+  long_space h = rw (le-leb (2 ^ 48) (length list) h)
 
   module _ (short : length list < 2 ^ 48) where
-    pub refused-space : (r k : ℕ) → (replayed t list).answer ≡ Refused r k → space ≡ tableSpace t list space
-    unfolding tableSpace
-    refused-space r k e = rw (lt-leb (2 ^ 48) (length list) short, e)
+    pub refused_space : (r k : ℕ) → (replayed t list).answer ≡ Refused r k → space ≡ table_space t list space
+    unfolding table_space
+    refused_space r k e = rw (lt-leb (2 ^ 48) (length list) short, e)
 
-    pub played-space : (o : Outcome) → (replayed t list).answer ≡ Played o → stateSpace (replayed t list).state space ≡ tableSpace t list space
-    unfolding tableSpace
-    played-space o e = rw (lt-leb (2 ^ 48) (length list) short, e)
+    pub played_space : (o : Outcome) → (replayed t list).answer ≡ Played o → state_space (replayed t list).state space ≡ table_space t list space
+    unfolding table_space
+    played_space o e = rw (lt-leb (2 ^ 48) (length list) short, e)

@@ -2,15 +2,15 @@
 use Prim.Native.Nat.{ℕ}
 use mathlib.Core.Path.{◌≡◌, ap, ◌∙◌}
 use mathlib.Core.List.{List}
-use Rattle.session.specs.Session.{sessionAnswer}
+use Rattle.session.specs.Session.{session_answer}
 use Rattle.session.specs.declared.calls.Call.{Call}
 use Rattle.session.specs.declared.calls.SessionAnswer.{SessionAnswer}
-use Rattle.session.proofs.CallLaws.{session-answer-is}
-use Rattle.session_bytes.specs.Space.{sheetCall}
-use Rattle.ronchhek.specs.Sessions.{sessionNumber, callNumber}
+use Rattle.session.proofs.CallLaws.{session_answer_is}
+use Rattle.session_bytes.specs.Space.{sheet_call}
+use Rattle.ronchhek.specs.Sessions.{session_number, call_number}
 
 pub number-told :
-    (sheet session : List ℕ) (c : Call) (a : SessionAnswer) {n : ℕ} → sessionAnswer a ≡ sessionAnswer (sheetCall sheet session c)
-    → n ≡ sessionNumber a → n ≡ callNumber sheet session c
-unfolding callNumber
-number-told sheet session c a e h = h ∙ ap sessionNumber (session-answer-is e)
+    (sheet session : List ℕ) (c : Call) (a : SessionAnswer) {n : ℕ} → session_answer a ≡ session_answer (sheet_call sheet session c)
+    → n ≡ session_number a → n ≡ call_number sheet session c
+unfolding call_number
+number-told sheet session c a e h = h ∙ ap session_number (session_answer_is e)

@@ -2,26 +2,26 @@
 -- N the refusal's number.
 use Rattle.std.specs.Prelude.{ℕ, List, ◌++◌, ltb, length, drop}
 use Rattle.lists.specs.Lists.{pick}
-use Rattle.tasks.specs.Sheet.{sheetBytes}
-use Rattle.practice.specs.Practice.{practiceTable, practiceRefusal}
+use Rattle.tasks.specs.Sheet.{sheet_bytes}
+use Rattle.practice.specs.Practice.{practice_table, practice_refusal}
 use Rattle.ronchhek.specs.Tables.{done}
 
 -- the sheet of policy, m, n and s
-abbrev pub practiceSheet : ℕ → ℕ → ℕ → ℕ → List ℕ
-practiceSheet policy m n s = sheetBytes (practiceTable policy m n s)
+abbrev pub practice_sheet : ℕ → ℕ → ℕ → ℕ → List ℕ
+practice_sheet policy m n s = sheet_bytes (practice_table policy m n s)
 
 -- why no sheet is written, 0 where one is: 4, 5 and 6, then 12 where the output is shorter than the sheet
-unfoldable pub sheetRefusal : ℕ → ℕ → ℕ → ℕ → List ℕ → ℕ
-sheetRefusal policy m n s out =
-    pick (ltb 0 (practiceRefusal policy m n)) (practiceRefusal policy m n)
-    (pick (ltb (length out) (length (practiceSheet policy m n s))) 12 0)
+unfoldable pub sheet_refusal : ℕ → ℕ → ℕ → ℕ → List ℕ → ℕ
+sheet_refusal policy m n s out =
+    pick (ltb 0 (practice_refusal policy m n)) (practice_refusal policy m n)
+    (pick (ltb (length out) (length (practice_sheet policy m n s))) 12 0)
 
 -- the number returned
-unfoldable pub practiceNumber : ℕ → ℕ → ℕ → ℕ → List ℕ → ℕ
-practiceNumber policy m n s out = done (sheetRefusal policy m n s out) (length (practiceSheet policy m n s))
+unfoldable pub practice_number : ℕ → ℕ → ℕ → ℕ → List ℕ → ℕ
+practice_number policy m n s out = done (sheet_refusal policy m n s out) (length (practice_sheet policy m n s))
 
 -- the output afterwards: the sheet at its front, later bytes as they were; a refusal leaves every byte
-unfoldable pub practiceSpace : ℕ → ℕ → ℕ → ℕ → List ℕ → List ℕ
-practiceSpace policy m n s out =
-    pick (ltb 0 (sheetRefusal policy m n s out)) out
-    (practiceSheet policy m n s ++ drop (length (practiceSheet policy m n s)) out)
+unfoldable pub practice_space : ℕ → ℕ → ℕ → ℕ → List ℕ → List ℕ
+practice_space policy m n s out =
+    pick (ltb 0 (sheet_refusal policy m n s out)) out
+    (practice_sheet policy m n s ++ drop (length (practice_sheet policy m n s)) out)

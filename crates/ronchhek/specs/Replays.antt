@@ -3,7 +3,7 @@
 -- and, for 11, the tick's. The state's bytes are those at the front of a slot: c, p of task 1, then task 2 and so on.
 use Rattle.std.specs.Prelude.{ℕ, ◌+◌, ◌*◌, ◌^◌, List, ltb, leb, length}
 use Rattle.lists.specs.Lists.{pick}
-use Rattle.tasks.specs.Sheet.{sheetOf}
+use Rattle.tasks.specs.Sheet.{sheet_of}
 use Rattle.tasks.specs.Replay.{replayed}
 use Rattle.tasks.specs.declared.table.Table.{Table}
 use Rattle.tasks.specs.declared.state.State.{State}
@@ -13,48 +13,48 @@ use Rattle.tasks.specs.declared.play.Outcome.{Outcome}
 use Rattle.tasks.specs.declared.play.Outcome.TheVariants.{Kept, Missed}
 use Rattle.tasks.specs.declared.play.ReplayAnswer.{ReplayAnswer}
 use Rattle.tasks.specs.declared.play.ReplayAnswer.TheVariants.{Played, Refused}
-use Rattle.slots.specs.StateSpace.{stateSpace}
+use Rattle.slots.specs.StateSpace.{state_space}
 
 -- a refusal's number, and the tick's
-abbrev pub refusedAt : ℕ → ℕ → ℕ
-refusedAt r tick = r * 2 ^ 48 + tick
+abbrev pub refused_at : ℕ → ℕ → ℕ
+refused_at r tick = r * 2 ^ 48 + tick
 
 -- the number of each outcome
-abbrev pub outcomeNumber : Outcome → ℕ
-outcomeNumber Kept = 2 ^ 56
-outcomeNumber (Missed k) = 2 * 2 ^ 56 + k
+abbrev pub outcome_number : Outcome → ℕ
+outcome_number Kept = 2 ^ 56
+outcome_number (Missed k) = 2 * 2 ^ 56 + k
 
 -- the number of each answer of a replay that has `size` bytes to write: 11 comes before 12, which is judged where a list is played and its
 -- space is shorter
-abbrev pub answerNumber : ℕ → ReplayAnswer → List ℕ → ℕ
-answerNumber size (Played o) space = pick (ltb (length space) size) (refusedAt 12 0) (outcomeNumber o)
-answerNumber size (Refused r k) space = refusedAt r k
+abbrev pub answer_number : ℕ → ReplayAnswer → List ℕ → ℕ
+answer_number size (Played o) space = pick (ltb (length space) size) (refused_at 12 0) (outcome_number o)
+answer_number size (Refused r k) space = refused_at r k
 
 -- the space afterwards: a list that was played leaves the sixteen bytes of its state at the front, a refusal leaves all
-abbrev pub answerSpace : ReplayAnswer → State → List ℕ → List ℕ
-answerSpace (Played o) s space = stateSpace s space
-answerSpace (Refused r k) s space = space
+abbrev pub answer_space : ReplayAnswer → State → List ℕ → List ℕ
+answer_space (Played o) s space = state_space s space
+answer_space (Refused r k) s space = space
 
 -- the replay of a table; a list with more ticks than the answer has room for is not played (12)
-unfoldable pub tableNumber : ℕ → Table → List ℕ → List ℕ → ℕ
-tableNumber size t list space = pick (leb (2 ^ 48) (length list)) (refusedAt 12 0) (answerNumber size (replayed t list).answer space)
+unfoldable pub table_number : ℕ → Table → List ℕ → List ℕ → ℕ
+table_number size t list space = pick (leb (2 ^ 48) (length list)) (refused_at 12 0) (answer_number size (replayed t list).answer space)
 
-unfoldable pub tableSpace : Table → List ℕ → List ℕ → List ℕ
-tableSpace t list space =
-    pick (leb (2 ^ 48) (length list)) space (answerSpace (replayed t list).answer (replayed t list).state space)
+unfoldable pub table_space : Table → List ℕ → List ℕ → List ℕ
+table_space t list space =
+    pick (leb (2 ^ 48) (length list)) space (answer_space (replayed t list).answer (replayed t list).state space)
 
 -- the sheet's refusals 1 to 8 come first
-abbrev pub ifAccepted : Reading → ℕ → ℕ
-ifAccepted Reading.Accepted n = n
-ifAccepted (Reading.Refused r) n = refusedAt r 0
+abbrev pub if_accepted : Reading → ℕ → ℕ
+if_accepted Reading.Accepted n = n
+if_accepted (Reading.Refused r) n = refused_at r 0
 
-abbrev pub spaceIfAccepted : Reading → List ℕ → List ℕ → List ℕ
-spaceIfAccepted Reading.Accepted new old = new
-spaceIfAccepted (Reading.Refused r) new old = old
+abbrev pub space_if_accepted : Reading → List ℕ → List ℕ → List ℕ
+space_if_accepted Reading.Accepted new old = new
+space_if_accepted (Reading.Refused r) new old = old
 
 -- the call: the number that it returns, here with a size of 16, and the space afterwards
-unfoldable pub callNumber : ℕ → List ℕ → List ℕ → List ℕ → ℕ
-callNumber size sheet list space = ifAccepted (sheetOf sheet).answer (tableNumber size (sheetOf sheet).table list space)
+unfoldable pub call_number : ℕ → List ℕ → List ℕ → List ℕ → ℕ
+call_number size sheet list space = if_accepted (sheet_of sheet).answer (table_number size (sheet_of sheet).table list space)
 
-unfoldable pub callSpace : List ℕ → List ℕ → List ℕ → List ℕ
-callSpace sheet list space = spaceIfAccepted (sheetOf sheet).answer (tableSpace (sheetOf sheet).table list space) space
+unfoldable pub call_space : List ℕ → List ℕ → List ℕ → List ℕ
+call_space sheet list space = space_if_accepted (sheet_of sheet).answer (table_space (sheet_of sheet).table list space) space

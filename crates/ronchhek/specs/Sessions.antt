@@ -4,14 +4,14 @@ use Rattle.std.specs.Prelude.{ℕ, ◌*◌, ◌^◌, List}
 use Rattle.session.specs.declared.calls.Call.{Call}
 use Rattle.session.specs.declared.calls.SessionAnswer.{SessionAnswer}
 use Rattle.session.specs.declared.calls.SessionAnswer.TheVariants.{Done, Missed, Refused}
-use Rattle.session_bytes.specs.Space.{sheetCall}
+use Rattle.session_bytes.specs.Space.{sheet_call}
 
 -- the number of each answer; N is 0 for the first two
-abbrev pub sessionNumber : SessionAnswer → ℕ
-sessionNumber Done = 2 ^ 48
-sessionNumber Missed = 2 * 2 ^ 48
-sessionNumber (Refused r) = r
+abbrev pub session_number : SessionAnswer → ℕ
+session_number Done = 2 ^ 48
+session_number Missed = 2 * 2 ^ 48
+session_number (Refused r) = r
 
--- the number returned; the session's bytes afterwards are `sheetSpace`
-unfoldable pub callNumber : List ℕ → List ℕ → Call → ℕ
-callNumber sheet session c = sessionNumber (sheetCall sheet session c)
+-- the number returned; the session's bytes afterwards are `sheet_space`
+unfoldable pub call_number : List ℕ → List ℕ → Call → ℕ
+call_number sheet session c = session_number (sheet_call sheet session c)

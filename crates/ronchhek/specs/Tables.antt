@@ -2,7 +2,7 @@
 -- task table"). The answers are kind × 2^48 + N: kind 1 done with N the length written, kind 0 refused with N the refusal's number.
 use Rattle.std.specs.Prelude.{ℕ, zero, suc, ◌+◌, ◌*◌, ◌^◌, List, [], ◌∷◌, ◌++◌, ltb, length, get_or, drop}
 use Rattle.lists.specs.Lists.{eight, pick}
-use Rattle.tasks.specs.Sheet.{sheetOf, sheetBytes, writeRefusal, writeOut}
+use Rattle.tasks.specs.Sheet.{sheet_of, sheet_bytes, write_refusal, write_out}
 use Rattle.tasks.specs.declared.table.Table.{Table}
 use Rattle.tasks.specs.declared.sheet.Reading.{Reading}
 use Rattle.tasks.specs.declared.sheet.Reading.TheVariants as Reading
@@ -14,12 +14,12 @@ unfoldable pub entries : Table → ℕ → ℕ → List ℕ
 entries t zero i = []
 entries t (suc k) i = get_or t.work i 0 ∷ get_or t.deadline i 0 ∷ get_or t.gap i 0 ∷ entries t k (i + 1)
 
-unfoldable pub tableBytes : Table → List ℕ
-tableBytes t = t.policy ∷ t.m ∷ t.n ∷ entries t 8 0
+unfoldable pub table_bytes : Table → List ℕ
+table_bytes t = t.policy ∷ t.m ∷ t.n ∷ entries t 8 0
 
 -- and back
-unfoldable pub tableFrom : List ℕ → Table
-tableFrom b =
+unfoldable pub table_from : List ℕ → Table
+table_from b =
     record {
       policy = get_or b 0 0;
       m = get_or b 1 0;
@@ -32,38 +32,38 @@ tableFrom b =
 -- ---- the table of a sheet
 
 -- refusals 1 to 8 of the sheet, then 12 where the space is shorter than 27 bytes; 0 where there is none
-abbrev pub readRefusal : Reading → List ℕ → ℕ
-readRefusal Reading.Accepted space = pick (ltb (length space) 27) 12 0
-readRefusal (Reading.Refused r) space = r
+abbrev pub read_refusal : Reading → List ℕ → ℕ
+read_refusal Reading.Accepted space = pick (ltb (length space) 27) 12 0
+read_refusal (Reading.Refused r) space = r
 
 -- a refusal's number, or kind 1 with the length written
 abbrev pub done : ℕ → ℕ → ℕ
 done refusal n = pick (ltb 0 refusal) refusal (2 ^ 48 + n)
 
 -- the number returned
-unfoldable pub readNumber : List ℕ → List ℕ → ℕ
-readNumber sheet space = done (readRefusal (sheetOf sheet).answer space) 27
+unfoldable pub read_number : List ℕ → List ℕ → ℕ
+read_number sheet space = done (read_refusal (sheet_of sheet).answer space) 27
 
 -- the space afterwards: the table at its front, later bytes as they were; a refusal leaves every byte
-unfoldable pub readSpace : List ℕ → List ℕ → List ℕ
-readSpace sheet space =
-    pick (ltb 0 (readRefusal (sheetOf sheet).answer space)) space (tableBytes (sheetOf sheet).table ++ drop 27 space)
+unfoldable pub read_space : List ℕ → List ℕ → List ℕ
+read_space sheet space =
+    pick (ltb 0 (read_refusal (sheet_of sheet).answer space)) space (table_bytes (sheet_of sheet).table ++ drop 27 space)
 
 -- ---- the sheet of a table
 
 -- the number for a table that is written: 4 to 7 and 12, or the length of its sheet
-unfoldable pub sheetNumber : Table → List ℕ → ℕ
-sheetNumber t out = done (writeRefusal t out) (length (sheetBytes t))
+unfoldable pub sheet_number : Table → List ℕ → ℕ
+sheet_number t out = done (write_refusal t out) (length (sheet_bytes t))
 
 -- 1 and 8 where the bytes end before the table is complete or go on after it; then 4 to 7 of the table, then 12
-unfoldable pub bytesRefusal : List ℕ → List ℕ → ℕ
-bytesRefusal table out =
+unfoldable pub bytes_refusal : List ℕ → List ℕ → ℕ
+bytes_refusal table out =
     pick (ltb (length table) 27) 1
     (pick (ltb 27 (length table)) 8
-    (writeRefusal (tableFrom table) out))
+    (write_refusal (table_from table) out))
 
-unfoldable pub writeNumber : List ℕ → List ℕ → ℕ
-writeNumber table out = done (bytesRefusal table out) (length (sheetBytes (tableFrom table)))
+unfoldable pub write_number : List ℕ → List ℕ → ℕ
+write_number table out = done (bytes_refusal table out) (length (sheet_bytes (table_from table)))
 
-unfoldable pub writeSpace : List ℕ → List ℕ → List ℕ
-writeSpace table out = pick (ltb 0 (bytesRefusal table out)) out (writeOut (tableFrom table) out)
+unfoldable pub write_space : List ℕ → List ℕ → List ℕ
+write_space table out = pick (ltb 0 (bytes_refusal table out)) out (write_out (table_from table) out)

@@ -2,8 +2,8 @@
 ghost use Rattle.std.specs.Prelude.{◌≡◌, ◌+◌, ◌*◌, ◌≤◌, length, get_or};
 ghost use Rattle.std.proofs.lemmas.List.Edits.{sets};
 ghost use Rattle.lists.specs.Lists.{eight};
-ghost use Rattle.tasks.specs.Sheet.{writeOut};
-ghost use Rattle.ronchhek.specs.Tables.{tableBytes, tableFrom, readNumber, readSpace, sheetNumber, writeNumber, writeSpace};
+ghost use Rattle.tasks.specs.Sheet.{write_out};
+ghost use Rattle.ronchhek.specs.Tables.{table_bytes, table_from, read_number, read_space, sheet_number, write_number, write_space};
 
 use tasks::{Reading, Table, Writing};
 
@@ -27,7 +27,7 @@ fn column(b: &[u8], at: usize) -> [u8; 8]
 // The table in 27 bytes.
 fn table_from(b: &[u8]) -> Table
     requires { 27 ≤ length b.now }
-    ensures { result ≡ tableFrom b.now }
+    ensures { result ≡ table_from b.now }
 {
     Table {
         policy: b[0],
@@ -42,7 +42,7 @@ fn table_from(b: &[u8]) -> Table
 // Writes a table's 27 bytes at the front of the space.
 fn put_table(out: &mut [u8], t: Table)
     requires { 27 ≤ length out.old }
-    ensures { out.new ≡ sets out.old 0 (tableBytes t) }
+    ensures { out.new ≡ sets out.old 0 (table_bytes t) }
 {
     out[0] = t.policy;
     out[1] = t.m;
@@ -60,7 +60,7 @@ fn put_table(out: &mut [u8], t: Table)
 // The table of a sheet: kind × 2^48 + N, kind 1 with the 27 bytes written, kind 0 with the refusal's number.
 #[unsafe(no_mangle)]
 pub extern "C" fn ronchhek_read(sheet: &[u8], table: &mut [u8]) -> u64
-    ensures { (result ≡ readNumber sheet.now table.old) × (table.new ≡ readSpace sheet.now table.old) }
+    ensures { (result ≡ read_number sheet.now table.old) × (table.new ≡ read_space sheet.now table.old) }
 {
     let read = tasks::read_sheet(sheet);
     let answer = read.answer;
@@ -79,7 +79,7 @@ pub extern "C" fn ronchhek_read(sheet: &[u8], table: &mut [u8]) -> u64
 
 // Writes the sheet of a table: kind 1 with the sheet's length, kind 0 with the refusal's number.
 pub(crate) fn write_table(t: Table, out: &mut [u8]) -> u64
-    ensures { (result ≡ sheetNumber t out.old) × (out.new ≡ writeOut t out.old) }
+    ensures { (result ≡ sheet_number t out.old) × (out.new ≡ write_out t out.old) }
 {
     match tasks::write_sheet(t, out) {
         Writing::Refused(r) => r as u64,
@@ -90,7 +90,7 @@ pub(crate) fn write_table(t: Table, out: &mut [u8]) -> u64
 // The sheet of a table of 27 bytes: kind 1 with the sheet's length, kind 0 with the refusal's number.
 #[unsafe(no_mangle)]
 pub extern "C" fn ronchhek_write(table: &[u8], out: &mut [u8]) -> u64
-    ensures { (result ≡ writeNumber table.now out.old) × (out.new ≡ writeSpace table.now out.old) }
+    ensures { (result ≡ write_number table.now out.old) × (out.new ≡ write_space table.now out.old) }
 {
     if table.len() < 27 {
         return 1;

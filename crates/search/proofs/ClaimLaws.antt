@@ -9,44 +9,44 @@ use lib.ListN.{length, get_or, take, drop, replicate, length-replicate}
 use lib.Dec.{eqb}
 use borrow.Author.Tests.{eq-eqb, ne_eqb, lt-ltb, le-ltb}
 use Rattle.lists.specs.Lists.{pick}
-use Rattle.tasks.specs.Table.{tableFault}
-use Rattle.tasks.specs.Sheet.{sheetOf, afterReading}
+use Rattle.tasks.specs.Table.{table_fault}
+use Rattle.tasks.specs.Sheet.{sheet_of, after_reading}
 use Rattle.tasks.specs.declared.table.Table.{Table}
 use Rattle.tasks.specs.declared.sheet.Reading.{Reading}
 use Rattle.tasks.specs.declared.sheet.Reading.TheVariants as Reading
 use Rattle.levels.specs.Verdict.{Answer, Verdict}
 use Rattle.levels.specs.Verdict.Answer.{Unsafe, Safe, NoRoom}
-use Rattle.levels.specs.Slots.{count_of, masksOf}
+use Rattle.levels.specs.Slots.{count_of, masks_of}
 use Rattle.levels.specs.Levels.{trail}
-use Rattle.levels.proofs.Trails.{trail-same}
-use Rattle.levels.proofs.Slots.{rule-same, stored_same, complete-same}
+use Rattle.levels.proofs.Trails.{trail_same}
+use Rattle.levels.proofs.Slots.{rule_same, stored_same, complete_same}
 use Rattle.states.specs.System.{system}
-use Rattle.slots.specs.Layout.{Layout, columns, parentAt, maskAt}
+use Rattle.slots.specs.Layout.{Layout, columns, parent_at, mask_at}
 use Rattle.slots.specs.Running.{parent_in, Settled}
-use Rattle.slots.proofs.LayoutLaws.{stays-join}
+use Rattle.slots.proofs.LayoutLaws.{stays_join}
 use Rattle.slots.proofs.RunningLaws.{marked_start}
-use Rattle.search.specs.Claim.{slots_of, slotsIn, spacesRefusal, tableRefusal, sheetRefusal, Figures, figures, refusalFigures, Replays, Searched, Found, Search}
+use Rattle.search.specs.Claim.{slots_of, slots_in, spaces_refusal, table_refusal, sheet_refusal, Figures, figures, refusal_figures, Replays, Searched, Found, Search}
 use Rattle.search.specs.Keeping.{Ran, RanIs, RanBy, written_by, ReportReady, ReportIs, Lent, Fresh, Finishing}
 use Rattle.search.specs.declared.run.End.{End}
 use Rattle.search.specs.declared.run.End.TheVariants as End
-use Rattle.search.proofs.ReportLaws.{traced-front, traced-rest}
+use Rattle.search.proofs.ReportLaws.{traced_front, traced_rest}
 use Rattle.search.specs.declared.run.SearchAnswer.{SearchAnswer}
 use Rattle.search.specs.declared.run.SearchAnswer.TheVariants as SearchAnswer
-use Rattle.states.proofs.SystemLaws.{replay-missed}
+use Rattle.states.proofs.SystemLaws.{replay_missed}
 
 -- ---- the replay of the masks given
 
-take-bytes : (n : ℕ) (l : List ℕ) → ((i : ℕ) → get_or l i 0 < 256) → (i : ℕ) → get_or (take n l) i 0 < 256
-take-bytes zero l f i = omega arith
-take-bytes (suc n) [] f i = omega arith
-take-bytes (suc n) (x ∷ xs) f zero = f 0
-take-bytes (suc n) (x ∷ xs) f (suc i) = take-bytes n xs (λ j. f (suc j)) i
+take_bytes : (n : ℕ) (l : List ℕ) → ((i : ℕ) → get_or l i 0 < 256) → (i : ℕ) → get_or (take n l) i 0 < 256
+take_bytes zero l f i = omega arith
+take_bytes (suc n) [] f i = omega arith
+take_bytes (suc n) (x ∷ xs) f zero = f 0
+take_bytes (suc n) (x ∷ xs) f (suc i) = take_bytes n xs (λ j. f (suc j)) i
 
 -- a verdict's masks, where the trace space has bytes, are missed by the replay of `tasks`
 verdict-replays :
-    (t : Table) → tableFault t ≡ 0 → (trace : List ℕ) → ((i : ℕ) → get_or trace i 0 < 256) → (k : ℕ) (a : Answer) → Verdict (system t) k a (take (masksOf a) trace)
+    (t : Table) → table_fault t ≡ 0 → (trace : List ℕ) → ((i : ℕ) → get_or trace i 0 < 256) → (k : ℕ) (a : Answer) → Verdict (system t) k a (take (masks_of a) trace)
     → Replays t trace a
-verdict-replays t valid trace bytes k (Unsafe L n) x = replay-missed t valid (take L trace) (take-bytes L trace bytes) x.report.missed
+verdict-replays t valid trace bytes k (Unsafe L n) x = replay_missed t valid (take L trace) (take_bytes L trace bytes) x.report.missed
 verdict-replays t valid trace bytes k (Safe n) x = tt
 verdict-replays t valid trace bytes k (NoRoom n) x = tt
 
@@ -68,8 +68,8 @@ told_back (SearchAnswer.NoRoom n) = refl
 told_back (SearchAnswer.Refused r) = refl
 
 -- LAW: an answer is told by its figures
-pub figures-is : {a b : SearchAnswer} → figures a ≡ figures b → a ≡ b
-figures-is {a} {b} e = sym (told_back a) ∙ ap told e ∙ told_back b
+pub figures_is : {a b : SearchAnswer} → figures a ≡ figures b → a ≡ b
+figures_is {a} {b} e = sym (told_back a) ∙ ap told e ∙ told_back b
 
 -- what the last pass asks
 ready_by : (t : Table) (K : ℕ) (ends w w₁ : List ℕ) (end : End) → RanIs t K ends w w₁ end → K ≤ 1000000 → (written_by K end ≤ K) × (written_by K end ≤ get_or ends 244 0)
@@ -77,8 +77,8 @@ ready_by t K ends w w₁ (End.Missed i m d n) x few = let a = x.ran.most in let 
 ready_by t K ends w w₁ (End.Closed n) x few = let a = x.most in let b = x.last in (a, omega arith)
 ready_by t K ends w w₁ End.Full x few = let b = x.last in (omega arith, omega arith)
 
-pub settle-ready : {t : Table} {K : ℕ} {ends w w₁ : List ℕ} {end : End} → RanBy t K ends w w₁ end → K ≤ 1000000 → (written_by K end ≤ K) × (written_by K end ≤ get_or ends 244 0)
-settle-ready {t} {K} {ends} {w} {w₁} {end} x few = ready_by t K ends w w₁ end x.is few
+pub settle_ready : {t : Table} {K : ℕ} {ends w w₁ : List ℕ} {end : End} → RanBy t K ends w w₁ end → K ≤ 1000000 → (written_by K end ≤ K) × (written_by K end ≤ get_or ends 244 0)
+settle_ready {t} {K} {ends} {w} {w₁} {end} x few = ready_by t K ends w w₁ end x.is few
 
 -- what the report asks
 report-by :
@@ -103,26 +103,26 @@ pub report-ready :
     → 21 * K ≤ length w₂ → ReportReady K w₂ trace end
 report-ready {t} {K} {ends} {w} {w₁} {w₂} {end} x z trace long fits = report-by t K ends w w₁ w₂ trace end x.is z long fits
 
-module _ (t : Table) (K : ℕ) (ends w w₁ w₂ trace trace' : List ℕ) (valid : tableFault t ≡ 0) (len : length w₁ ≡ length w) where
+module _ (t : Table) (K : ℕ) (ends w w₁ w₂ trace trace' : List ℕ) (valid : table_fault t ≡ 0) (len : length w₁ ≡ length w) where
   -- in the paper's columns, and with its masks at the front of the trace space, it is the claim
   ran-searched :
-      {a : Answer} {masks : List ℕ} → Ran t K ends w w₁ a masks → Settled K ends w₁ w₂ (count_of a) → take (masksOf a) trace' ≡ masks
-      → drop (masksOf a) trace' ≡ drop (masksOf a) trace → length trace' ≡ length trace → ((i : ℕ) → get_or trace' i 0 < 256)
+      {a : Answer} {masks : List ℕ} → Ran t K ends w w₁ a masks → Settled K ends w₁ w₂ (count_of a) → take (masks_of a) trace' ≡ masks
+      → drop (masks_of a) trace' ≡ drop (masks_of a) trace → length trace' ≡ length trace → ((i : ℕ) → get_or trace' i 0 < 256)
       → Searched (columns K) K t w w₂ trace trace' a
   ran-searched {a} {masks} r z front rest long bytes =
-      let v : Verdict (system t) K a (take (masksOf a) trace') = rw front r.verdict in
+      let v : Verdict (system t) K a (take (masks_of a) trace') = rw front r.verdict in
       record {
         verdict = v;
         replays = verdict-replays t valid trace' bytes K a v;
-        rule = rule-same (system t) r.rule r.some z.states z.parents z.masks;
+        rule = rule_same (system t) r.rule r.some z.states z.parents z.masks;
         most = r.most;
         stored = stored_same (system t) r.stored z.states;
-        complete = complete-same (system t) a r.complete z.states;
+        complete = complete_same (system t) a r.complete z.states;
         zeros = λ i h z b. absurd (omega arith);
-        work-rest = stays-join (omega arith) r.rest z.rest;
-        work-length = z.len ∙ len;
-        trace-rest = rest;
-        trace-length = long;
+        work_rest = stays_join (omega arith) r.rest z.rest;
+        work_length = z.len ∙ len;
+        trace_rest = rest;
+        trace_length = long;
       }
 
   -- .. and what the report found
@@ -136,19 +136,19 @@ module _ (t : Table) (K : ℕ) (ends w w₁ w₂ trace trace' : List ℕ) (valid
         searched = ran-searched x.ran z front rest long bytes;
       }
     where
-      same : trail (parentAt (columns K) w₂) (maskAt (columns K) w₂) d i ≡ trail (parent_in K ends w₁) (maskAt (columns K) w₁) d i
-      same = trail-same z.parents z.masks x.low d i x.below
+      same : trail (parent_at (columns K) w₂) (mask_at (columns K) w₂) d i ≡ trail (parent_in K ends w₁) (mask_at (columns K) w₁) d i
+      same = trail_same z.parents z.masks x.low d i x.below
 
-      front : take (suc d) trace' ≡ trail (parent_in K ends w₁) (maskAt (columns K) w₁) d i ++ m ∷ []
-      front = rw (y.1, ← add-one d) (traced-front K w₂ trace i d m) ∙ ap (λ (l : List ℕ). l ++ m ∷ []) same
+      front : take (suc d) trace' ≡ trail (parent_in K ends w₁) (mask_at (columns K) w₁) d i ++ m ∷ []
+      front = rw (y.1, ← add-one d) (traced_front K w₂ trace i d m) ∙ ap (λ (l : List ℕ). l ++ m ∷ []) same
 
       rest : drop (suc d) trace' ≡ drop (suc d) trace
-      rest = rw (y.1, ← add-one d) (traced-rest K w₂ trace i d m)
+      rest = rw (y.1, ← add-one d) (traced_rest K w₂ trace i d m)
   found-by (End.Closed n) r x z y long bytes = record { answer = Safe n; is = ap figures y.0; searched = ran-searched x z refl (ap (drop 0) y.1) long bytes }
   found-by End.Full r x z y long bytes = record { answer = NoRoom K; is = ap figures y.0; searched = ran-searched x z refl (ap (drop 0) y.1) long bytes }
 
 pub ran-found :
-    {t : Table} {K : ℕ} {ends w w₁ w₂ trace trace' : List ℕ} {end : End} → tableFault t ≡ 0 → length w₁ ≡ length w → RanBy t K ends w w₁ end
+    {t : Table} {K : ℕ} {ends w w₁ w₂ trace trace' : List ℕ} {end : End} → table_fault t ≡ 0 → length w₁ ≡ length w → RanBy t K ends w w₁ end
     → Settled K ends w₁ w₂ (written_by K end) → (r : SearchAnswer) → ReportIs K w₂ trace trace' end r → length trace' ≡ length trace
     → ((i : ℕ) → get_or trace' i 0 < 256) → Found (columns K) K t w w₂ trace trace' (figures r)
 ran-found {t} {K} {ends} {w} {w₁} {w₂} {trace} {trace'} {end} valid len x z r y long bytes =
@@ -157,52 +157,52 @@ ran-found {t} {K} {ends} {w} {w₁} {w₂} {trace} {trace'} {end} valid len x z 
 -- ---- K and the refusals
 
 module _ (w : List ℕ) where
-  pub slots-fit : 21 * slotsIn w ≤ length w
+  pub slots_fit : 21 * slots_in w ≤ length w
   unfolding slots_of
-  slots-fit = let a : min (length w / 21) 1000000 ≤ length w / 21 = min-le_left _ _ in omega arith
+  slots_fit = let a : min (length w / 21) 1000000 ≤ length w / 21 = min-le_left _ _ in omega arith
 
-  pub slots-few : slotsIn w ≤ 1000000
+  pub slots_few : slots_in w ≤ 1000000
   unfolding slots_of
-  slots-few = min-le_right _ _
+  slots_few = min-le_right _ _
 
-  pub slots-is : {k : ℕ} → k ≡ min (length w / 21) 1000000 → k ≡ slotsIn w
+  pub slots_is : {k : ℕ} → k ≡ min (length w / 21) 1000000 → k ≡ slots_in w
   unfolding slots_of
-  slots-is e = e
+  slots_is e = e
 
 module _ (K : ℕ) (trace : List ℕ) where
-  pub refusal-nine : K ≡ 0 → spacesRefusal K trace ≡ 9
-  unfolding spacesRefusal
-  refusal-nine e = rw (eq-eqb K 0 e)
+  pub refusal_nine : K ≡ 0 → spaces_refusal K trace ≡ 9
+  unfolding spaces_refusal
+  refusal_nine e = rw (eq-eqb K 0 e)
 
-  pub refusal-ten : (K ≡ 0 → ⊥) → length trace < K → spacesRefusal K trace ≡ 10
-  unfolding spacesRefusal
-  refusal-ten e h = rw (ne_eqb K 0 e, lt-ltb (length trace) K h)
+  pub refusal_ten : (K ≡ 0 → ⊥) → length trace < K → spaces_refusal K trace ≡ 10
+  unfolding spaces_refusal
+  refusal_ten e h = rw (ne_eqb K 0 e, lt-ltb (length trace) K h)
 
-  pub refusal-zero : (K ≡ 0 → ⊥) → K ≤ length trace → spacesRefusal K trace ≡ 0
-  unfolding spacesRefusal
-  refusal-zero e h = rw (ne_eqb K 0 e, le-ltb (length trace) K h)
+  pub refusal_zero : (K ≡ 0 → ⊥) → K ≤ length trace → spaces_refusal K trace ≡ 0
+  unfolding spaces_refusal
+  refusal_zero e h = rw (ne_eqb K 0 e, le-ltb (length trace) K h)
 
   module _ (t : Table) where
-    pub table-fault : 0 < tableFault t → tableRefusal t K trace ≡ tableFault t
-    unfolding tableRefusal
-    table-fault h = rw (lt-ltb 0 (tableFault t) h)
+    pub table_fault_lem : 0 < table_fault t → table_refusal t K trace ≡ table_fault t
+    unfolding table_refusal
+    table_fault_lem h = rw (lt-ltb 0 (table_fault t) h)
 
-    pub table-valid : tableFault t ≤ 0 → tableRefusal t K trace ≡ spacesRefusal K trace
-    unfolding tableRefusal
-    table-valid h = rw (le-ltb 0 (tableFault t) h)
+    pub table_valid : table_fault t ≤ 0 → table_refusal t K trace ≡ spaces_refusal K trace
+    unfolding table_refusal
+    table_valid h = rw (le-ltb 0 (table_fault t) h)
 
   module _ (sheet : List ℕ) where
-    pub sheet-fault : {r : ℕ} → (sheetOf sheet).answer ≡ Reading.Refused r → sheetRefusal sheet K trace ≡ r
-    unfolding sheetRefusal
-    sheet-fault e = ap (λ a. afterReading a (spacesRefusal K trace)) e
+    pub sheet_fault : {r : ℕ} → (sheet_of sheet).answer ≡ Reading.Refused r → sheet_refusal sheet K trace ≡ r
+    unfolding sheet_refusal
+    sheet_fault e = ap (λ a. after_reading a (spaces_refusal K trace)) e
 
-    pub sheet-read : (sheetOf sheet).answer ≡ Reading.Accepted → sheetRefusal sheet K trace ≡ spacesRefusal K trace
-    unfolding sheetRefusal
-    sheet-read e = ap (λ a. afterReading a (spacesRefusal K trace)) e
+    pub sheet_read : (sheet_of sheet).answer ≡ Reading.Accepted → sheet_refusal sheet K trace ≡ spaces_refusal K trace
+    unfolding sheet_refusal
+    sheet_read e = ap (λ a. after_reading a (spaces_refusal K trace)) e
 
 -- a search that is refused, and one that is not
-pub refused-search : {l : Layout} {K q r : ℕ} {t : Table} {w trace : List ℕ} → q ≡ r → 0 < r → Search l K q t w w trace trace (refusalFigures r)
-refused-search e h = record { refused = λ l. (rw e, refl, refl); found = λ z. absurd (omega arith) }
+pub refused_search : {l : Layout} {K q r : ℕ} {t : Table} {w trace : List ℕ} → q ≡ r → 0 < r → Search l K q t w w trace trace (refusal_figures r)
+refused_search e h = record { refused = λ l. (rw e, refl, refl); found = λ z. absurd (omega arith) }
 
 pub found-search :
     {l : Layout} {K q : ℕ} {t : Table} {w w' trace trace' : List ℕ} {f : Figures} → q ≡ 0 → Found l K t w w' trace trace' f
@@ -223,13 +223,13 @@ zeros (suc n) zero = refl
 zeros (suc n) (suc b) = zeros n b
 
 -- a valid table's spaces, with heads of no chain and no slot filled yet
-pub lent-fresh : {t : Table} {w trace heads ends : List ℕ} {K n : ℕ} → Lent t w trace K → heads ≡ replicate n 0 → 0 < n → ends ≡ replicate 245 1000000 → Fresh t K ends w heads
-lent-fresh {t} {w} {trace} {heads} {ends} {K} {n} x h some e =
+pub lent_fresh : {t : Table} {w trace heads ends : List ℕ} {K n : ℕ} → Lent t w trace K → heads ≡ replicate n 0 → 0 < n → ends ≡ replicate 245 1000000 → Fresh t K ends w heads
+lent_fresh {t} {w} {trace} {heads} {ends} {K} {n} x h some e =
     record {
       valid = x.valid;
       some = x.some;
-      few = (let a = x.is in omega (arith, slots-few w));
-      fits = (let a = x.is in omega (arith, slots-fit w));
+      few = (let a = x.is in omega (arith, slots_few w));
+      fits = (let a = x.is in omega (arith, slots_fit w));
       buckets = rw h (omega (arith, length-replicate {A = ℕ} n 0));
       empty = λ b. rw h (zeros n b);
       marked = rw e (marked_start (length-replicate {A = ℕ} 245 1000000) (λ b l. all_same 245 1000000 b l));
@@ -239,8 +239,8 @@ lent-fresh {t} {w} {trace} {heads} {ends} {K} {n} x h some e =
 pub finishing : {t : Table} {K : ℕ} {ends w w₁ trace : List ℕ} {end : End} → Lent t w trace K → length ends ≡ 245 → length w₁ ≡ length w → RanBy t K ends w w₁ end → Finishing K ends w₁ trace end
 finishing {t} {K} {ends} {w} {w₁} {trace} {end} x long len ran =
     let is = x.is in
-    let ready = settle-ready ran (omega (arith, slots-few w)) in
-    let fits : 21 * K ≤ length w₁ = omega (arith, slots-fit w) in
+    let ready = settle_ready ran (omega (arith, slots_few w)) in
+    let fits : 21 * K ≤ length w₁ = omega (arith, slots_fit w) in
     record {
       len = long;
       most = ready.0;

@@ -11,21 +11,21 @@ use Rattle.tasks.specs.declared.table.Table.{Table}
 use Rattle.levels.specs.Verdict.Answer.{Safe, NoRoom}
 use Rattle.levels.specs.Levels.{Before, Hunting}
 use Rattle.levels.proofs.Replay.{reached}
-use Rattle.levels.proofs.Slots.{level-stored, miss-complete, filled-stored, safe-complete}
-use Rattle.levels.proofs.Steps.{Standing, search-start, search-miss, search-open, search-next, search-safe}
-use Rattle.states.specs.Bytes.{stateIn}
+use Rattle.levels.proofs.Slots.{level_stored, miss_complete, filled_stored, safe_complete}
+use Rattle.levels.proofs.Steps.{Standing, search_start, search_miss, search_open, search_next, search_safe}
+use Rattle.states.specs.Bytes.{state_in}
 use Rattle.states.specs.System.{system}
-use Rattle.states.proofs.SystemLaws.{reached-proper}
-use Rattle.slots.specs.Layout.{columns, maskAt, Stays}
+use Rattle.states.proofs.SystemLaws.{reached_proper}
+use Rattle.slots.specs.Layout.{columns, mask_at, Stays}
 use Rattle.slots.specs.Running.{parent_in, Marked}
-use Rattle.slots.proofs.LayoutLaws.{stays-none, stays-join}
-use Rattle.slots.proofs.RunningLaws.{marked_more, marked-last, parent-now}
+use Rattle.slots.proofs.LayoutLaws.{stays_none, stays_join}
+use Rattle.slots.proofs.RunningLaws.{marked_more, marked_last, parent-now}
 use Rattle.search.specs.Indexed.{Indexed, Pushed}
 use Rattle.search.specs.Keeping.{FillingIn, Level, MissFrom, Overfull, LevelDone, LevelFull, Fresh, Ran, RanMissed}
 use Rattle.search.proofs.IndexLaws.{indexed-start}
 
 abbrev pub StandingIn : Table → ℕ → List ℕ → List ℕ → ℕ → ℕ → ℕ → Type 0
-StandingIn t K ends w lo hi d = Standing (system t) (stateIn w) (parent_in K ends w) (maskAt (columns K) w) 0 lo hi d
+StandingIn t K ends w lo hi d = Standing (system t) (state_in w) (parent_in K ends w) (mask_at (columns K) w) 0 lo hi d
 
 -- the search stands at level d, in slots lo to hi - 1; w is what the work space held when its loop began
 pub record Stands (t : Table) (K : ℕ) (ends w w' heads' : List ℕ) (lo hi d : ℕ) : Type 0 where
@@ -37,30 +37,30 @@ pub record Stands (t : Table) (K : ℕ) (ends w w' heads' : List ℕ) (lo hi d :
 
 module _ {t : Table} {K : ℕ} {ends w heads : List ℕ} (fresh : Fresh t K ends w heads) where
   -- no slot is filled yet
-  pub none-indexed : Indexed K w heads 0
-  none-indexed = indexed-start w heads fresh.few fresh.fits fresh.buckets fresh.empty
+  pub none_indexed : Indexed K w heads 0
+  none_indexed = indexed-start w heads fresh.few fresh.fits fresh.buckets fresh.empty
 
   -- slot 0 holds the start state: level 0
-  pub first-stands : {w₀ heads₀ : List ℕ} {s : State} → s ≡ start → Pushed K w w₀ heads heads₀ 0 s 0 0 → Stands t K ends w₀ w₀ heads₀ 0 1 0
-  first-stands {w₀} {heads₀} {s} e p =
+  pub first_stands : {w₀ heads₀ : List ℕ} {s : State} → s ≡ start → Pushed K w w₀ heads heads₀ 0 s 0 0 → Stands t K ends w₀ w₀ heads₀ 0 1 0
+  first_stands {w₀} {heads₀} {s} e p =
       record {
         indexed = p.indexed;
         marked = marked_more fresh.marked (omega arith);
         standing =
-            search-start (system t) (stateIn w₀) (parent_in K ends w₀) (maskAt (columns K) w₀) (p.state ∙ e)
+            search_start (system t) (state_in w₀) (parent_in K ends w₀) (mask_at (columns K) w₀) (p.state ∙ e)
             (parent-now fresh.marked (omega arith) (omega arith) K w₀ p.place) p.mask_is;
-        rest = stays-none;
+        rest = stays_none;
         len = refl;
       }
 
   module _ {ends₁ w₀ w₁ heads₁ : List ℕ} {lo hi d : ℕ} (x : Stands t K ends₁ w₀ w₁ heads₁ lo hi d) where
     -- what the hunt and the storing ask
-    pub stands-level : Level t w₁ hi
-    stands-level =
+    pub stands_level : Level t w₁ hi
+    stands_level =
         record {
           valid = fresh.valid;
           fits = (let a = x.indexed.fits in let b = x.indexed.room in omega arith);
-          proper = λ i h. reached-proper t fresh.valid (stateIn w₁ i) (reached (system t) (x.standing.explored.sound i h));
+          proper = λ i h. reached_proper t fresh.valid (state_in w₁ i) (reached (system t) (x.standing.explored.sound i h));
         }
 
     few : hi ≤ 1000000
@@ -68,15 +68,15 @@ module _ {t : Table} {K : ℕ} {ends w heads : List ℕ} (fresh : Fresh t K ends
 
     -- the level is done, and it has successors that are new
     pub next-stands :
-        {ends₂ w₂ heads₂ : List ℕ} {n : ℕ} → Hunting (system t) (stateIn w₁) lo hi → LevelDone t K ends₁ ends₂ w₁ w₂ heads₂ lo hi n → (n ≡ hi → ⊥)
+        {ends₂ w₂ heads₂ : List ℕ} {n : ℕ} → Hunting (system t) (state_in w₁) lo hi → LevelDone t K ends₁ ends₂ w₁ w₂ heads₂ lo hi n → (n ≡ hi → ⊥)
         → Stands t K ends₂ w₀ w₂ heads₂ hi n (d + 1)
     next-stands {ends₂} {w₂} {heads₂} {n} hunted y new =
         let o = y.kept.order in
         record {
           indexed = y.indexed;
           marked = y.marked;
-          standing = rw add-one (search-next (system t) (y.filled d (search-open (system t) x.standing hunted)) (omega arith));
-          rest = stays-join o x.rest y.kept.rest;
+          standing = rw add-one (search_next (system t) (y.filled d (search_open (system t) x.standing hunted)) (omega arith));
+          rest = stays_join o x.rest y.kept.rest;
           len = y.kept.len ∙ x.len;
         }
 
@@ -84,11 +84,11 @@ module _ {t : Table} {K : ℕ} {ends w heads : List ℕ} (fresh : Fresh t K ends
 
     module _ (first : Stays (columns K) 1 w w₀) where
       stays : Stays (columns K) hi w w₁
-      stays = stays-join (let a = x.standing.deep in omega arith) first x.rest
+      stays = stays_join (let a = x.standing.deep in omega arith) first x.rest
 
       -- a mask misses
-      pub ran-miss : {i m : ℕ} → MissFrom t w₁ lo hi i m → RanMissed t K ends₁ w w₁ i m d hi
-      ran-miss {i} {m} y =
+      pub ran_miss : {i m : ℕ} → MissFrom t w₁ lo hi i m → RanMissed t K ends₁ w w₁ i m d hi
+      ran_miss {i} {m} y =
           record {
             below = y.below;
             deep = x.standing.deep;
@@ -97,36 +97,36 @@ module _ {t : Table} {K : ℕ} {ends w heads : List ℕ} (fresh : Fresh t K ends
                 record {
                   some = (let a = x.standing.deep in omega arith);
                   most = x.indexed.room;
-                  last = marked-last x.marked (let a = x.standing.explored.order in let b = few in omega arith);
-                  verdict = search-miss (system t) x.standing x.indexed.room i y.from y.below m y.missed;
+                  last = marked_last x.marked (let a = x.standing.explored.order in let b = few in omega arith);
+                  verdict = search_miss (system t) x.standing x.indexed.room i y.from y.below m y.missed;
                   rule = x.standing.rule;
-                  stored = level-stored (system t) x.standing.explored;
-                  complete = miss-complete (system t) x.standing.explored;
+                  stored = level_stored (system t) x.standing.explored;
+                  complete = miss_complete (system t) x.standing.explored;
                   rest = stays;
                 };
           }
 
       -- nothing new
-      pub ran-safe : {ends₂ w₂ heads₂ : List ℕ} {n : ℕ} → Hunting (system t) (stateIn w₁) lo hi → LevelDone t K ends₁ ends₂ w₁ w₂ heads₂ lo hi n → n ≡ hi → Ran t K ends₂ w w₂ (Safe hi) []
-      ran-safe {ends₂} {w₂} {heads₂} {n} hunted y old =
+      pub ran_safe : {ends₂ w₂ heads₂ : List ℕ} {n : ℕ} → Hunting (system t) (state_in w₁) lo hi → LevelDone t K ends₁ ends₂ w₁ w₂ heads₂ lo hi n → n ≡ hi → Ran t K ends₂ w w₂ (Safe hi) []
+      ran_safe {ends₂} {w₂} {heads₂} {n} hunted y old =
           record {
             some = (let a = x.standing.deep in omega arith);
             most = x.indexed.room;
-            last = marked-last y.marked few;
-            verdict = search-safe (system t) filled K x.indexed.room [];
+            last = marked_last y.marked few;
+            verdict = search_safe (system t) filled K x.indexed.room [];
             rule = filled.rule;
-            stored = filled-stored (system t) filled.storing;
-            complete = safe-complete (system t) filled.storing (λ i m h. h);
-            rest = stays-join (omega arith) stays (rw old at y.kept.rest);
+            stored = filled_stored (system t) filled.storing;
+            complete = safe_complete (system t) filled.storing (λ i m h. h);
+            rest = stays_join (omega arith) stays (rw old at y.kept.rest);
           }
         where
           filled : FillingIn t K ends₂ w₂ lo hi hi d (Before hi)
-          filled = rw old at (y.filled d (search-open (system t) x.standing hunted))
+          filled = rw old at (y.filled d (search_open (system t) x.standing hunted))
 
       -- no room
-      pub ran-full : {ends₂ w₂ : List ℕ} → Hunting (system t) (stateIn w₁) lo hi → LevelFull t K ends₁ ends₂ w₁ w₂ lo hi → Ran t K ends₂ w w₂ (NoRoom K) []
-      ran-full {ends₂} {w₂} hunted y =
-          let full : Overfull t K ends₂ w₂ = y.overfull d (search-open (system t) x.standing hunted) in
+      pub ran_full : {ends₂ w₂ : List ℕ} → Hunting (system t) (state_in w₁) lo hi → LevelFull t K ends₁ ends₂ w₁ w₂ lo hi → Ran t K ends₂ w w₂ (NoRoom K) []
+      ran_full {ends₂} {w₂} hunted y =
+          let full : Overfull t K ends₂ w₂ = y.overfull d (search_open (system t) x.standing hunted) in
           record {
             some = fresh.some;
             most = omega arith;
@@ -135,5 +135,5 @@ module _ {t : Table} {K : ℕ} {ends w heads : List ℕ} (fresh : Fresh t K ends
             rule = full.rule;
             stored = full.stored;
             complete = tt;
-            rest = stays-join x.indexed.room stays y.rest;
+            rest = stays_join x.indexed.room stays y.rest;
           }

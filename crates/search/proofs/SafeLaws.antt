@@ -7,22 +7,22 @@ use native.Mathlib.Decide.{dec_lt}
 use lib.Dec.{ltb}
 use borrow.Author.Tests.{ltb-true, ltb-false}
 use Rattle.lists.proofs.Bools.{by_bool}
-use Rattle.tasks.specs.Table.{tableFault}
-use Rattle.tasks.specs.Sheet.{sheetOf, afterReading}
+use Rattle.tasks.specs.Table.{table_fault}
+use Rattle.tasks.specs.Sheet.{sheet_of, after_reading}
 use Rattle.tasks.specs.declared.table.Table.{Table}
 use Rattle.tasks.specs.declared.sheet.Reading.{Reading}
 use Rattle.tasks.specs.declared.sheet.Reading.TheVariants as Reading
-use Rattle.tasks.proofs.Listed.{sheet-refusal}
+use Rattle.tasks.proofs.Listed.{sheet_refusal_lem}
 use Rattle.levels.specs.Verdict.{Answer}
 use Rattle.levels.specs.Verdict.Answer.{Unsafe, Safe, NoRoom}
 use Rattle.slots.specs.Layout.{Layout}
-use Rattle.search.specs.Claim.{spacesRefusal, tableRefusal, sheetRefusal, Figures, verdictFigures, Searched, Search}
+use Rattle.search.specs.Claim.{spaces_refusal, table_refusal, sheet_refusal, Figures, verdict_figures, Searched, Search}
 
 -- the figures of kind 1 are those of Safe
-pub safe-figures : (a : Answer) {f : Figures} → f ≡ verdictFigures a → f.kind ≡ 1 → a ≡ Safe f.N
-safe-figures (Unsafe l n) e k = absurd (let z = ap (λ f. f.kind) e in omega arith)
-safe-figures (Safe n) e k = ap Safe (ap (λ f. f.N) (sym e))
-safe-figures (NoRoom n) e k = absurd (let z = ap (λ f. f.kind) e in omega arith)
+pub safe_figures : (a : Answer) {f : Figures} → f ≡ verdict_figures a → f.kind ≡ 1 → a ≡ Safe f.N
+safe_figures (Unsafe l n) e k = absurd (let z = ap (λ f. f.kind) e in omega arith)
+safe_figures (Safe n) e k = ap Safe (ap (λ f. f.N) (sym e))
+safe_figures (NoRoom n) e k = absurd (let z = ap (λ f. f.kind) e in omega arith)
 
 -- a search that answers Safe was not refused
 pub safe-search :
@@ -33,28 +33,28 @@ safe-search {l} {K} {q} x k =
       | yes h ↦ absurd (let z = ap (λ f. f.kind) (x.refused h).0 in omega arith)
       | no h ↦
           let y = x.found (omega arith) in
-          (omega arith, rw (safe-figures y.answer y.is k) at y.searched)
+          (omega arith, rw (safe_figures y.answer y.is k) at y.searched)
     ]
 
 -- a search of a table that was not refused had a valid table, and spaces that will do
-pub table-passed : (t : Table) (K : ℕ) (trace : List ℕ) → tableRefusal t K trace ≡ 0 → (tableFault t ≡ 0) × (spacesRefusal K trace ≡ 0)
-unfolding tableRefusal
-table-passed t K trace z =
-    by_bool (ltb 0 (tableFault t))
-    (λ e. absurd (omega (arith, ltb-true 0 (tableFault t) e, rw e at z)))
-    (λ e. (omega (arith, ltb-false 0 (tableFault t) e), rw e at z))
+pub table_passed : (t : Table) (K : ℕ) (trace : List ℕ) → table_refusal t K trace ≡ 0 → (table_fault t ≡ 0) × (spaces_refusal K trace ≡ 0)
+unfolding table_refusal
+table_passed t K trace z =
+    by_bool (ltb 0 (table_fault t))
+    (λ e. absurd (omega (arith, ltb-true 0 (table_fault t) e, rw e at z)))
+    (λ e. (omega (arith, ltb-false 0 (table_fault t) e), rw e at z))
 
-pub table-spaces : (t : Table) (K : ℕ) (trace : List ℕ) → tableFault t ≡ 0 → tableRefusal t K trace ≡ spacesRefusal K trace
-unfolding tableRefusal
-table-spaces t K trace valid = rw valid
+pub table_spaces : (t : Table) (K : ℕ) (trace : List ℕ) → table_fault t ≡ 0 → table_refusal t K trace ≡ spaces_refusal K trace
+unfolding table_refusal
+table_spaces t K trace valid = rw valid
 
 -- a search of a sheet that was not refused had a sheet that is accepted, and such spaces
 reading-passed :
-    (sheet : List ℕ) (rest : ℕ) (a : Reading) → (sheetOf sheet).answer ≡ a → afterReading a rest ≡ 0 → (a ≡ Reading.Accepted) × (rest ≡ 0)
+    (sheet : List ℕ) (rest : ℕ) (a : Reading) → (sheet_of sheet).answer ≡ a → after_reading a rest ≡ 0 → (a ≡ Reading.Accepted) × (rest ≡ 0)
 reading-passed sheet rest Reading.Accepted e z = (refl, z)
-reading-passed sheet rest (Reading.Refused r) e z = absurd (omega (arith, (sheet-refusal sheet e).0))
+reading-passed sheet rest (Reading.Refused r) e z = absurd (omega (arith, (sheet_refusal_lem sheet e).0))
 
 pub sheet-passed :
-    (sheet : List ℕ) (K : ℕ) (trace : List ℕ) → sheetRefusal sheet K trace ≡ 0 → ((sheetOf sheet).answer ≡ Reading.Accepted) × (spacesRefusal K trace ≡ 0)
-unfolding sheetRefusal
-sheet-passed sheet K trace z = reading-passed sheet (spacesRefusal K trace) (sheetOf sheet).answer refl z
+    (sheet : List ℕ) (K : ℕ) (trace : List ℕ) → sheet_refusal sheet K trace ≡ 0 → ((sheet_of sheet).answer ≡ Reading.Accepted) × (spaces_refusal K trace ≡ 0)
+unfolding sheet_refusal
+sheet-passed sheet K trace z = reading-passed sheet (spaces_refusal K trace) (sheet_of sheet).answer refl z

@@ -6,7 +6,7 @@ use Rattle.tasks.specs.declared.table.Table.{Table}
 use Rattle.levels.specs.Compute.{Computed, computed}
 use Rattle.levels.specs.Compute.Computed.{Answered, OutOfFuel}
 use Rattle.states.specs.System.{system}
-use Rattle.search.specs.Claim.{verdictFigures}
+use Rattle.search.specs.Claim.{verdict_figures}
 
 unfoldable pub same_numbers : List ℕ → List ℕ → Bool
 same_numbers [] [] = true
@@ -15,8 +15,8 @@ same_numbers (x ∷ xs) [] = false
 same_numbers (x ∷ xs) (y ∷ ys) = eqb x y && same_numbers xs ys
 
 -- "Two states are different when some task's numbers differ between them"
-unfoldable pub sameStates : State → State → Bool
-sameStates s u = same_numbers s.c u.c && same_numbers s.p u.p
+unfoldable pub same_states : State → State → Bool
+same_states s u = same_numbers s.c u.c && same_numbers s.p u.p
 
 -- the numbers below n, in order
 unfoldable pub below : ℕ → List ℕ
@@ -24,10 +24,10 @@ below zero = []
 below (suc n) = below n ++ n ∷ []
 
 -- the search of a table with K slots
-unfoldable pub verdictOf : Table → ℕ → Computed ℕ
-verdictOf t K = computed (system t) sameStates (below (2 ^ t.n)) K K
+unfoldable pub verdict_of : Table → ℕ → Computed ℕ
+verdict_of t K = computed (system t) same_states (below (2 ^ t.n)) K K
 
 -- its figures, and the masks given: kind, L, N, and the masks
-abbrev pub computedAnswer : Computed ℕ → List ℕ
-computedAnswer (Answered a masks) = (verdictFigures a).kind ∷ (verdictFigures a).L ∷ (verdictFigures a).N ∷ masks
-computedAnswer OutOfFuel = []
+abbrev pub computed_answer : Computed ℕ → List ℕ
+computed_answer (Answered a masks) = (verdict_figures a).kind ∷ (verdict_figures a).L ∷ (verdict_figures a).N ∷ masks
+computed_answer OutOfFuel = []

@@ -1,7 +1,7 @@
 -- Only the search's bookkeeping, no part of its claim: what its parts ask of each other and promise. K slots stand in w in the layout while the search runs
 -- (Running.antt of `slots`), and ends are the ends of its blocks.
 use Rattle.std.specs.Prelude.{◌≡◌, false, List, [], ◌∷◌, ◌++◌, ℕ, suc, ◌+◌, ◌*◌, ◌/◌, ◌≤◌, ◌<◌, length, get_or, drop}
-use Rattle.tasks.specs.Table.{tableFault}
+use Rattle.tasks.specs.Table.{table_fault}
 use Rattle.tasks.specs.State.{improper}
 use Rattle.tasks.specs.Tick.{after}
 use Rattle.tasks.specs.declared.state.State.{State}
@@ -11,11 +11,11 @@ use Rattle.levels.specs.Verdict.Answer.{Unsafe, Safe, NoRoom}
 use Rattle.levels.specs.Verdict as levels
 use Rattle.levels.specs.Slots.{SlotRule, Stored, Complete, count_of}
 use Rattle.levels.specs.Levels.{trail, Before, Hunting, Filling}
-use Rattle.states.specs.Bytes.{stateIn}
+use Rattle.states.specs.Bytes.{state_in}
 use Rattle.states.specs.System.{step, system}
-use Rattle.slots.specs.Layout.{columns, parentAt, maskAt, Stays}
+use Rattle.slots.specs.Layout.{columns, parent_at, mask_at, Stays}
 use Rattle.slots.specs.Running.{parent_in, Marked, Settled}
-use Rattle.search.specs.Claim.{slotsIn, figures, Found}
+use Rattle.search.specs.Claim.{slots_in, figures, Found}
 use Rattle.search.specs.Indexed.{Indexed, Pushed}
 use Rattle.search.specs.declared.hunt.HuntAnswer.{HuntAnswer}
 use Rattle.search.specs.declared.hunt.HuntAnswer.TheVariants.{Miss, Clear}
@@ -31,42 +31,42 @@ use Rattle.search.specs.declared.run.SearchAnswer.TheVariants as SearchAnswer
 -- ---- levels' invariants over the slots of a work space
 
 abbrev pub FillingIn : Table → ℕ → List ℕ → List ℕ → ℕ → ℕ → ℕ → ℕ → (ℕ → ℕ → Type 0) → Type 0
-FillingIn t K ends w lo hi n d T = Filling (system t) (stateIn w) (parent_in K ends w) (maskAt (columns K) w) 0 lo hi n d T
+FillingIn t K ends w lo hi n d T = Filling (system t) (state_in w) (parent_in K ends w) (mask_at (columns K) w) 0 lo hi n d T
 
 -- ---- the hunt
 
 -- a valid table, and hi slots with proper states
 pub record Level (t : Table) (w : List ℕ) (hi : ℕ) : Type 0 where
-  pub valid : tableFault t ≡ 0
+  pub valid : table_fault t ≡ 0
   pub fits : 16 * hi ≤ length w
-  pub proper : (i : ℕ) → i < hi → improper t (stateIn w i) ≡ false
+  pub proper : (i : ℕ) → i < hi → improper t (state_in w i) ≡ false
 
 -- mask m misses from slot i of the level
 pub record MissFrom (t : Table) (w : List ℕ) (lo hi i m : ℕ) : Type 0 where
   pub from : lo ≤ i
   pub below : i < hi
-  pub missed : step t (stateIn w i) m ≡ levels.Tick.Missed (after t (stateIn w i) m)
+  pub missed : step t (state_in w i) m ≡ levels.Tick.Missed (after t (state_in w i) m)
 
 abbrev pub HuntIs : Table → List ℕ → ℕ → ℕ → HuntAnswer → Type 0
 HuntIs t w lo hi (Miss i m) = MissFrom t w lo hi i m
-HuntIs t w lo hi Clear = Hunting (system t) (stateIn w) lo hi
+HuntIs t w lo hi Clear = Hunting (system t) (state_in w) lo hi
 
 -- ---- storing
 
 -- state u, to which slot i leads under mask m: the slots hold it; or slot n does now; or they are full, without it
 pub record Known (w w' heads heads' : List ℕ) (n : ℕ) (u : State) : Type 0 where
-  pub held : Holds (stateIn w) n u
+  pub held : Holds (state_in w) n u
   pub same : w' ≡ w
-  pub same-heads : heads' ≡ heads
+  pub same_heads : heads' ≡ heads
 
 pub record Added (K : ℕ) (w w' heads heads' : List ℕ) (n : ℕ) (u : State) (i m : ℕ) : Type 0 where
   pub below : n < K
-  pub absent : Holds (stateIn w) n u → ⊥
+  pub absent : Holds (state_in w) n u → ⊥
   pub pushed : Pushed K w w' heads heads' n u i m
 
 pub record Crowded (K : ℕ) (w w' : List ℕ) (n : ℕ) (u : State) : Type 0 where
   pub full : n ≡ K
-  pub absent : Holds (stateIn w) n u → ⊥
+  pub absent : Holds (state_in w) n u → ⊥
   pub same : w' ≡ w
 
 abbrev pub Attempted : ℕ → List ℕ → List ℕ → List ℕ → List ℕ → ℕ → State → ℕ → ℕ → Attempt → Type 0
@@ -78,14 +78,14 @@ Attempted K w w' heads heads' n u i m Attempt.Full = Crowded K w w' n u
 pub record Kept (K : ℕ) (w w' : List ℕ) (n n' : ℕ) : Type 0 where
   pub order : n ≤ n'
   pub len : length w' ≡ length w
-  pub states : (j : ℕ) → j < n → stateIn w' j ≡ stateIn w j
+  pub states : (j : ℕ) → j < n → state_in w' j ≡ state_in w j
   pub rest : Stays (columns K) n' w w'
 
 -- every slot is filled with a state reached, and there is one more: no room
 pub record Overfull (t : Table) (K : ℕ) (ends w : List ℕ) : Type 0 where
   pub verdict : (trace : List ℕ) → Verdict (system t) K (NoRoom K) trace
-  pub rule : SlotRule (system t) (stateIn w) (parent_in K ends w) (maskAt (columns K) w) 0 K
-  pub stored : Stored (system t) (stateIn w) K
+  pub rule : SlotRule (system t) (state_in w) (parent_in K ends w) (mask_at (columns K) w) 0 K
+  pub stored : Stored (system t) (state_in w) K
 
 -- slot i of a level under its masks, from the pairs T tried to U, whichever the level and the ends of the blocks before
 abbrev pub Carries : Table → ℕ → List ℕ → List ℕ → ℕ → ℕ → ℕ → (ℕ → ℕ → Type 0) → (ℕ → ℕ → Type 0) → Type 0
@@ -94,10 +94,10 @@ Carries t K w w' n n' i T U =
 
 -- what a row asks: n slots, slot i among them with a proper state
 pub record RowReady (t : Table) (K : ℕ) (w heads : List ℕ) (n i : ℕ) : Type 0 where
-  pub valid : tableFault t ≡ 0
+  pub valid : table_fault t ≡ 0
   pub indexed : Indexed K w heads n
   pub below : i < n
-  pub proper : improper t (stateIn w i) ≡ false
+  pub proper : improper t (state_in w i) ≡ false
 
 -- the row is done, or there was no room
 pub record RowDone (t : Table) (K : ℕ) (w w' heads' : List ℕ) (n n' i : ℕ) : Type 0 where
@@ -116,12 +116,12 @@ RowIs t K w w' heads' n i Filled.Full = RowFull t K w w' n i
 
 -- what a block asks: n slots, those from lo to hi - 1 among them, with proper states and all of one block
 pub record BlockReady (t : Table) (K : ℕ) (w heads : List ℕ) (n lo hi : ℕ) : Type 0 where
-  pub valid : tableFault t ≡ 0
+  pub valid : table_fault t ≡ 0
   pub indexed : Indexed K w heads n
   pub order : lo ≤ hi
   pub below : hi ≤ n
   pub block : hi ≤ 4096 * (lo / 4096 + 1)
-  pub proper : (i : ℕ) → i < hi → improper t (stateIn w i) ≡ false
+  pub proper : (i : ℕ) → i < hi → improper t (state_in w i) ≡ false
 
 -- slots lo to i - 1 of a level that has those up to hi - 1, whichever the level and the ends of the blocks before
 abbrev pub Advances : Table → ℕ → List ℕ → List ℕ → ℕ → ℕ → ℕ → ℕ → ℕ → Type 0
@@ -167,7 +167,7 @@ LevelIs t K ends ends' w w' heads' lo hi Filled.Full = LevelFull t K ends ends' 
 
 -- a valid table, and no slot of K filled yet
 pub record Fresh (t : Table) (K : ℕ) (ends w heads : List ℕ) : Type 0 where
-  pub valid : tableFault t ≡ 0
+  pub valid : table_fault t ≡ 0
   pub some : 1 ≤ K
   pub few : K ≤ 1000000
   pub fits : 21 * K ≤ length w
@@ -181,9 +181,9 @@ pub record Ran (t : Table) (K : ℕ) (ends w w' : List ℕ) (a : Answer) (masks 
   pub most : count_of a ≤ K
   pub last : get_or ends 244 0 ≡ 1000000
   pub verdict : Verdict (system t) K a masks
-  pub rule : SlotRule (system t) (stateIn w') (parent_in K ends w') (maskAt (columns K) w') 0 (count_of a)
-  pub stored : Stored (system t) (stateIn w') (count_of a)
-  pub complete : Complete (system t) (stateIn w') a
+  pub rule : SlotRule (system t) (state_in w') (parent_in K ends w') (mask_at (columns K) w') 0 (count_of a)
+  pub stored : Stored (system t) (state_in w') (count_of a)
+  pub complete : Complete (system t) (state_in w') a
   pub rest : Stays (columns K) (count_of a) w w'
 
 -- mask m misses from slot i, to which d masks lead, and n slots are filled
@@ -191,7 +191,7 @@ pub record RanMissed (t : Table) (K : ℕ) (ends w w' : List ℕ) (i m d n : ℕ
   pub below : i < n
   pub deep : d < n
   pub low : (j : ℕ) → j < n → parent_in K ends w' j < n
-  pub ran : Ran t K ends w w' (Unsafe (suc d) n) (trail (parent_in K ends w') (maskAt (columns K) w') d i ++ m ∷ [])
+  pub ran : Ran t K ends w w' (Unsafe (suc d) n) (trail (parent_in K ends w') (mask_at (columns K) w') d i ++ m ∷ [])
 
 abbrev pub RanIs : Table → ℕ → List ℕ → List ℕ → List ℕ → End → Type 0
 RanIs t K ends w w' (End.Missed i m d n) = RanMissed t K ends w w' i m d n
@@ -215,12 +215,12 @@ pub record TraceReady (K : ℕ) (w trace : List ℕ) (i d : ℕ) : Type 0 where
   pub below : i < n
   pub most : n ≤ K
   pub fits : 21 * K ≤ length w
-  pub low : (j : ℕ) → j < n → parentAt (columns K) w j < n
+  pub low : (j : ℕ) → j < n → parent_at (columns K) w j < n
   pub long : d < length trace
 
 -- the trace space with the masks to slot i and then m
 unfoldable pub traced : ℕ → List ℕ → List ℕ → ℕ → ℕ → ℕ → List ℕ
-traced K w trace i d m = trail (parentAt (columns K) w) (maskAt (columns K) w) d i ++ m ∷ drop (d + 1) trace
+traced K w trace i d m = trail (parent_at (columns K) w) (mask_at (columns K) w) d i ++ m ∷ drop (d + 1) trace
 
 abbrev pub ReportReady : ℕ → List ℕ → List ℕ → End → Type 0
 ReportReady K w trace (End.Missed i m d n) = TraceReady K w trace i d
@@ -237,8 +237,8 @@ ReportIs K w trace trace' End.Full r = (r ≡ SearchAnswer.NoRoom K) × (trace' 
 
 -- a valid table, and K slots in spaces that will do
 pub record Lent (t : Table) (w trace : List ℕ) (K : ℕ) : Type 0 where
-  pub valid : tableFault t ≡ 0
-  pub is : K ≡ slotsIn w
+  pub valid : table_fault t ≡ 0
+  pub is : K ≡ slots_in w
   pub some : 1 ≤ K
   pub long : K ≤ length trace
 
@@ -253,4 +253,4 @@ pub record Finishing (K : ℕ) (ends w trace : List ℕ) (end : End) : Type 0 wh
 -- .. and what is left then: what the levels found of a valid table, w₀ being the work space at first, is the claim
 pub record Finished (K : ℕ) (ends w w' trace trace' : List ℕ) (end : End) (r : SearchAnswer) : Type 0 where
   pub found :
-      (t : Table) (w₀ : List ℕ) → tableFault t ≡ 0 → length w ≡ length w₀ → RanBy t K ends w₀ w end → Found (columns K) K t w₀ w' trace trace' (figures r)
+      (t : Table) (w₀ : List ℕ) → table_fault t ≡ 0 → length w ≡ length w₀ → RanBy t K ends w₀ w end → Found (columns K) K t w₀ w' trace trace' (figures r)

@@ -6,11 +6,11 @@ use Rattle.slots.specs.Layout.{rows}
 use Rattle.search.specs.Claim.{slots_of, Figures, TableSearchIn, SheetSearchIn}
 
 -- 01: "K = work length divided by 24, rounded down, at most 1,000,000"
-abbrev pub rowsIn : List ℕ → ℕ
-rowsIn work = slots_of 24 work
+abbrev pub rows_in : List ℕ → ℕ
+rows_in work = slots_of 24 work
 
 abbrev pub TableSearchInRows : Table → List ℕ → List ℕ → List ℕ → List ℕ → Figures → Type 0
-TableSearchInRows t work work' trace trace' f = TableSearchIn rows (rowsIn work) t work work' trace trace' f
+TableSearchInRows t work work' trace trace' f = TableSearchIn rows (rows_in work) t work work' trace trace' f
 
 abbrev pub SheetSearchInRows : List ℕ → List ℕ → List ℕ → List ℕ → List ℕ → Figures → Type 0
-SheetSearchInRows sheet work work' trace trace' f = SheetSearchIn rows (rowsIn work) sheet work work' trace trace' f
+SheetSearchInRows sheet work work' trace trace' f = SheetSearchIn rows (rows_in work) sheet work work' trace trace' f

@@ -1,7 +1,7 @@
 // The hunt through a level's slots and their legal masks, which stops on its first miss.
 ghost use Rattle.std.specs.Prelude.{◌≡◌, ◌≤◌};
-ghost use Rattle.tasks.specs.Ticker.{tickerOf};
-ghost use Rattle.states.specs.Miss.{missBy};
+ghost use Rattle.tasks.specs.Ticker.{ticker_of};
+ghost use Rattle.states.specs.Miss.{miss_by};
 ghost use Rattle.search.specs.Keeping.{Level, HuntIs};
 
 use states::{follow, full_misses, words_in};
@@ -16,7 +16,7 @@ pub(crate) enum HuntAnswer {
 
 // Whether some mask misses from the state in the words, where it is proper.
 fn has_miss(t: Table, ticker: Ticker, v: [u16; 8]) -> bool
-    ensures { result ≡ missBy t ticker v }
+    ensures { result ≡ miss_by t ticker v }
 {
     if tight(t, v) {
         return full_misses(t, ticker, v);
@@ -26,7 +26,7 @@ fn has_miss(t: Table, ticker: Ticker, v: [u16; 8]) -> bool
 
 // Tries the slots of the level for a miss, and of a slot that has one the legal masks in increasing order.
 pub(crate) fn hunt(t: Table, ticker: Ticker, work: &[u8], lo: usize, hi: usize) -> HuntAnswer
-    requires { (ticker ≡ tickerOf t) × (lo ≤ hi) × Level t work.now hi }
+    requires { (ticker ≡ ticker_of t) × (lo ≤ hi) × Level t work.now hi }
     ensures { HuntIs t work.now lo hi result }
 {
     let mut i = lo;

@@ -3,7 +3,7 @@
 // new are known as such by these bits alone.
 ghost use Rattle.std.specs.Prelude.{◌≡◌, ◌^◌, ◌<◌};
 ghost use Rattle.tasks.specs.Words.{state_of};
-ghost use Rattle.search.specs.Indexed.{bucketFor, tagFor, Indexed, HeldIs, Pushed};
+ghost use Rattle.search.specs.Indexed.{bucket_for, tag_for, Indexed, HeldIs, Pushed};
 
 use slots::{link_of, put_slot, word_of};
 use states::{Key, key_in, key_of, mix, same_keys};
@@ -11,7 +11,7 @@ use states::{Key, key_in, key_of, mix, same_keys};
 // The bucket of a key, of `size` buckets: a power of two, for an even spread.
 fn bucket(key: Key, size: usize) -> usize
     requires { 0 < size }
-    ensures { (result ≡ bucketFor size key) × (result < size) }
+    ensures { (result ≡ bucket_for size key) × (result < size) }
 {
     let x = mix(key);
     (x / 4294967296 + x % 4294967296) & (size - 1)
@@ -19,7 +19,7 @@ fn bucket(key: Key, size: usize) -> usize
 
 // The bit of a key's tag.
 fn tag_bit(key: Key) -> u32
-    ensures { (result ≡ 2 ^ tagFor key) × (result < 4096) }
+    ensures { (result ≡ 2 ^ tag_for key) × (result < 4096) }
 {
     let tag = mix(key) / 262144 % 12;
     1 << tag

@@ -1,6 +1,6 @@
 // The search level by level: a level is hunted for a miss before any of its successors is stored.
 ghost use Rattle.std.specs.Prelude.{◌≡◌};
-ghost use Rattle.tasks.specs.Ticker.{tickerOf};
+ghost use Rattle.tasks.specs.Ticker.{ticker_of};
 ghost use Rattle.search.specs.Keeping.{Fresh, RanBy};
 
 use crate::hunt::{HuntAnswer, hunt};
@@ -35,7 +35,7 @@ pub(crate) fn run_levels(
     ends: &mut [u32],
     k: usize,
 ) -> End
-    requires { (ticker ≡ tickerOf t) × Fresh t k ends.old work.old heads.old }
+    requires { (ticker ≡ ticker_of t) × Fresh t k ends.old work.old heads.old }
     ensures { RanBy t k ends.new work.old work.new result }
 {
     let start = [0u16; 8];

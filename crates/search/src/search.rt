@@ -1,8 +1,8 @@
 // The public calls: the search of a table and the search of a sheet.
 ghost use Rattle.std.specs.Prelude.{◌≡◌, ◌/◌, min};
-ghost use Rattle.tasks.specs.Table.{tableFault};
+ghost use Rattle.tasks.specs.Table.{table_fault};
 ghost use Rattle.slots.specs.Layout.{columns};
-ghost use Rattle.search.specs.Claim.{slotsIn, spacesRefusal, figures, Found, Search, TableSearch, SheetSearch};
+ghost use Rattle.search.specs.Claim.{slots_in, spaces_refusal, figures, Found, Search, TableSearch, SheetSearch};
 ghost use Rattle.search.specs.Keeping.{written_by, Fresh, RanBy, Lent, Finishing, Finished};
 
 use crate::outcome::report;
@@ -105,8 +105,8 @@ fn search_sized(t: Table, work: &mut [u8], trace: &mut [u8], k: usize, step: usi
 
 // The search of a valid table.
 fn search_valid(t: Table, work: &mut [u8], trace: &mut [u8]) -> SearchAnswer
-    requires { tableFault t ≡ 0 }
-    ensures { Search (columns (slotsIn work.old)) (slotsIn work.old) (spacesRefusal (slotsIn work.old) trace.old) t work.old work.new trace.old trace.new (figures result) }
+    requires { table_fault t ≡ 0 }
+    ensures { Search (columns (slots_in work.old)) (slots_in work.old) (spaces_refusal (slots_in work.old) trace.old) t work.old work.new trace.old trace.new (figures result) }
 {
     let k = slots_in(work.len());
     if k == 0 {

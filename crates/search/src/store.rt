@@ -1,7 +1,7 @@
 // Storing the successors of a level's slots, each state once.
 ghost use Rattle.std.specs.Prelude.{◌≡◌, ◌≤◌, ◌<◌};
 ghost use Rattle.tasks.specs.Words.{state_of};
-ghost use Rattle.tasks.specs.Ticker.{tickerOf, tickedBy};
+ghost use Rattle.tasks.specs.Ticker.{ticker_of, ticked_by};
 ghost use Rattle.slots.specs.Running.{Marked};
 ghost use Rattle.search.specs.Indexed.{Indexed};
 ghost use Rattle.search.specs.Keeping.{Level, Attempted, RowReady, RowIs, BlockReady, BlockIs, LevelIs};
@@ -38,7 +38,7 @@ fn try_mask(
     mask: u8,
 ) -> Attempt
     requires { Indexed k work.old heads.old n }
-    ensures { Attempted k work.old work.new heads.old heads.new n (state_of (tickedBy ticker state mask)) i mask result }
+    ensures { Attempted k work.old work.new heads.old heads.new n (state_of (ticked_by ticker state mask)) i mask result }
 {
     let next = ticker.after(state, mask);
     if holds(work, heads, k, n, next) {
@@ -61,7 +61,7 @@ fn store_row(
     from: usize,
     i: usize,
 ) -> Filled
-    requires { (ticker ≡ tickerOf t) × RowReady t k work.old heads.old from i }
+    requires { (ticker ≡ ticker_of t) × RowReady t k work.old heads.old from i }
     ensures { RowIs t k work.old work.new heads.new from i result }
 {
     let v = words_in(work, i);
@@ -97,7 +97,7 @@ fn store_block(
     lo: usize,
     hi: usize,
 ) -> Filled
-    requires { (ticker ≡ tickerOf t) × BlockReady t k work.old heads.old from lo hi }
+    requires { (ticker ≡ ticker_of t) × BlockReady t k work.old heads.old from lo hi }
     ensures { BlockIs t k work.old work.new heads.new from lo hi result }
 {
     let mut n = from;
@@ -128,7 +128,7 @@ pub(crate) fn store_level(
     lo: usize,
     hi: usize,
 ) -> Filled
-    requires { (ticker ≡ tickerOf t) × (lo ≤ hi) × Level t work.old hi × Indexed k work.old heads.old hi × Marked ends.old lo hi }
+    requires { (ticker ≡ ticker_of t) × (lo ≤ hi) × Level t work.old hi × Indexed k work.old heads.old hi × Marked ends.old lo hi }
     ensures { LevelIs t k ends.old ends.new work.old work.new heads.new lo hi result }
 {
     let mut n = hi;

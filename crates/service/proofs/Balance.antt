@@ -10,69 +10,69 @@ use lib.ListN.{length, get_or}
 use borrow.Author.Tests.{ltb-true, ltb-false}
 use Rattle.lists.specs.Lists.{eight, pick}
 use Rattle.lists.proofs.Bools.{by_bool}
-use Rattle.lists.proofs.Fill.{eight-at, eight-same}
-use Rattle.lists.proofs.Turns.{pick-most}
-use Rattle.tasks.specs.Table.{tableFault}
+use Rattle.lists.proofs.Fill.{eight_at, eight_same}
+use Rattle.lists.proofs.Turns.{pick_most}
+use Rattle.tasks.specs.Table.{table_fault}
 use Rattle.tasks.specs.State.{start, improper}
 use Rattle.tasks.specs.Tick.{bit, released, runs, chosen, after, missed, illegal, refusal, ticked}
-use Rattle.tasks.specs.Answers.{replayAnswer}
-use Rattle.tasks.specs.Replay.{played, replayed, replayTick}
+use Rattle.tasks.specs.Answers.{replay_answer}
+use Rattle.tasks.specs.Replay.{played, replayed, replay_tick}
 use Rattle.tasks.specs.declared.state.State.{State}
 use Rattle.tasks.specs.declared.table.Table.{Table}
 use Rattle.tasks.specs.declared.tick.TickAnswer.{TickAnswer}
 use Rattle.tasks.specs.declared.tick.TickAnswer.TheVariants.{Next, Missed, Refused}
 use Rattle.tasks.specs.declared.play.ReplayAnswer.TheVariants as Replay
-use Rattle.tasks.proofs.Choice.{runs-work}
-use Rattle.tasks.proofs.After.{work-on, work-off, work-ran, work-waited}
-use Rattle.tasks.proofs.Legal.{legal-bit}
+use Rattle.tasks.proofs.Choice.{runs_work}
+use Rattle.tasks.proofs.After.{work_on, work_off, work_ran, work_waited}
+use Rattle.tasks.proofs.Legal.{legal_bit}
 use Rattle.tasks.proofs.More.{idle}
-use Rattle.tasks.proofs.Answered.{ticked-refused, ticked-missed, ticked-next, refusal-passed, refusal-fault}
-use Rattle.tasks.proofs.Played.{replayed-refused, replayed-played, replay-names}
+use Rattle.tasks.proofs.Answered.{ticked_refused, ticked-missed, ticked-next, refusal_passed, refusal_fault}
+use Rattle.tasks.proofs.Played.{replayed_refused, replayed_played, replay-names}
 use Rattle.service.specs.declared.totals.Account.{Account}
-use Rattle.service.specs.Totals.{countNext, countTicks, releases, runsIn, releaseCount, ticksRun, accountFrom, accountOf, Balanced}
+use Rattle.service.specs.Totals.{count_next, count_ticks, releases, runs_in, release_count, ticks_run, account_from, account_of, Balanced}
 
 -- ---- a tick
 
 module _ (t : Table) (i : ℕ) (h : i < 8) (s : State) (mask : ℕ) where
   -- a release adds C to the work left, since a task that may be released has none
   released-balance :
-      tableFault t ≡ 0 → improper t s ≡ false → illegal t s mask ≡ false
+      table_fault t ≡ 0 → improper t s ≡ false → illegal t s mask ≡ false
       → pick (bit mask i) 1 0 * get_or t.work i 0 + get_or s.c i 0 ≡ get_or (released t s mask).c i 0
   released-balance valid proper legal =
       by_bool (bit mask i)
       (λ e.
-      let none = idle t s valid proper i h (legal-bit t s mask i h legal e).1 in
-      rw e (omega (arith, none, work-on t s mask i h e)))
-      (λ e. rw e (omega (arith, work-off t s mask i h e)))
+      let none = idle t s valid proper i h (legal_bit t s mask i h legal e).1 in
+      rw e (omega (arith, none, work_on t s mask i h e)))
+      (λ e. rw e (omega (arith, work_off t s mask i h e)))
 
-  runs-in : runsIn t i s mask ≡ runs t (released t s mask) i
+  runs_in_lem : runs_in t i s mask ≡ runs t (released t s mask) i
   unfolding chosen
-  runs-in = eight-at false (runs t (released t s mask)) i h
+  runs_in_lem = eight_at false (runs t (released t s mask)) i h
 
   -- a task that runs was ready, and loses 1
-  run-balance : get_or (released t s mask).c i 0 ≡ pick (runsIn t i s mask) 1 0 + get_or (after t s mask).c i 0
-  run-balance =
+  run_balance : get_or (released t s mask).c i 0 ≡ pick (runs_in t i s mask) 1 0 + get_or (after t s mask).c i 0
+  run_balance =
       let r = released t s mask in
-      rw runs-in
+      rw runs_in_lem
       (by_bool (runs t r i)
-      (λ e. rw e (omega (arith, runs-work t r i e, work-ran t s mask i h e)))
-      (λ e. rw e (omega (arith, work-waited t s mask i h e))))
+      (λ e. rw e (omega (arith, runs_work t r i e, work_ran t s mask i h e)))
+      (λ e. rw e (omega (arith, work_waited t s mask i h e))))
 
   tick-balance :
       refusal t s mask ≤ 0
-      → pick (bit mask i) 1 0 * get_or t.work i 0 + get_or s.c i 0 ≡ pick (runsIn t i s mask) 1 0 + get_or (after t s mask).c i 0
+      → pick (bit mask i) 1 0 * get_or t.work i 0 + get_or s.c i 0 ≡ pick (runs_in t i s mask) 1 0 + get_or (after t s mask).c i 0
   tick-balance none =
-      let ok = refusal-passed t s mask none in
-      released-balance ok.0 ok.1 ok.2 ∙ run-balance
+      let ok = refusal_passed t s mask none in
+      released-balance ok.0 ok.1 ok.2 ∙ run_balance
 
 -- a tick's balance and that of what comes after it
 joined : (x y r q C c d left : ℕ) → x * C + c ≡ y + d → r * C + d ≡ q + left → (x + r) * C + c ≡ y + q + left
 joined x y r q C c d left a b = omega (arith, add-mul x r C, a, b)
 
-next-most : {one rest n : ℕ} (a : TickAnswer) → one ≤ 1 → rest ≤ n → countNext one rest a ≤ suc n
-next-most Next h g = omega arith
-next-most Missed h g = omega arith
-next-most (Refused r) h g = omega arith
+next_most : {one rest n : ℕ} (a : TickAnswer) → one ≤ 1 → rest ≤ n → count_next one rest a ≤ suc n
+next_most Next h g = omega arith
+next_most Missed h g = omega arith
+next_most (Refused r) h g = omega arith
 
 -- ---- a list
 
@@ -80,13 +80,13 @@ module _ (t : Table) (i : ℕ) (h : i < 8) where
   -- LAW: from any state, whatever the answer, releases × C and the work at first are the ticks run and the work left
   pub played-balance :
       (s : State) (k : ℕ) (masks : List ℕ)
-      → countTicks t (releases i) s masks * get_or t.work i 0 + get_or s.c i 0
-      ≡ countTicks t (runsIn t i) s masks + get_or (played t s k masks).state.c i 0
-  unfolding countTicks played
+      → count_ticks t (releases i) s masks * get_or t.work i 0 + get_or s.c i 0
+      ≡ count_ticks t (runs_in t i) s masks + get_or (played t s k masks).state.c i 0
+  unfolding count_ticks played
   played-balance s k [] = omega arith
   played-balance s k (mask ∷ masks) =
       by_bool (ltb 0 (refusal t s mask))
-      (λ e. rw (sym (ticked-refused t s mask (ltb-true 0 (refusal t s mask) e))) (omega arith))
+      (λ e. rw (sym (ticked_refused t s mask (ltb-true 0 (refusal t s mask) e))) (omega arith))
       (λ e.
       let none = ltb-false 0 (refusal t s mask) e in
       let now = tick-balance t i h s mask none in
@@ -97,63 +97,63 @@ module _ (t : Table) (i : ℕ) (h : i < 8) where
       (joined _ _ _ _ (get_or t.work i 0) _ (get_or (after t s mask).c i 0) _ now (played-balance (after t s mask) (k + 1) masks))))
 
 -- LAW: no count exceeds the number of masks
-pub count_most : (t : Table) (test : State → ℕ → Bool) (s : State) (masks : List ℕ) → countTicks t test s masks ≤ length masks
-unfolding countTicks
+pub count_most : (t : Table) (test : State → ℕ → Bool) (s : State) (masks : List ℕ) → count_ticks t test s masks ≤ length masks
+unfolding count_ticks
 count_most t test s [] = omega arith
 count_most t test s (mask ∷ masks) =
-    next-most (ticked t s mask).answer (pick-most (test s mask) 1) (count_most t test (ticked t s mask).state masks)
+    next_most (ticked t s mask).answer (pick_most (test s mask) 1) (count_most t test (ticked t s mask).state masks)
 
 -- ---- a bad table
 
 -- every tick is refused, so none is counted
-none-counted : (t : Table) (test : State → ℕ → Bool) (s : State) (masks : List ℕ) → 0 < tableFault t → countTicks t test s masks ≡ 0
-unfolding countTicks
-none-counted t test s [] bad = refl
-none-counted t test s (mask ∷ masks) bad = rw (sym (ticked-refused t s mask (refusal-fault t s mask bad)))
+none_counted : (t : Table) (test : State → ℕ → Bool) (s : State) (masks : List ℕ) → 0 < table_fault t → count_ticks t test s masks ≡ 0
+unfolding count_ticks
+none_counted t test s [] bad = refl
+none_counted t test s (mask ∷ masks) bad = rw (sym (ticked_refused t s mask (refusal_fault t s mask bad)))
 
 -- LAW: refusals 4 to 7 have totals that are all 0
 pub no-totals :
-    (t : Table) (masks : List ℕ) → 0 < tableFault t
-    → accountFrom (record { answer = Replay.Refused (tableFault t) 0; state = start }) (eight (λ i. 0)) (eight (λ i. 0)) ≡ accountOf t masks
-unfolding accountOf releaseCount ticksRun
+    (t : Table) (masks : List ℕ) → 0 < table_fault t
+    → account_from (record { answer = Replay.Refused (table_fault t) 0; state = start }) (eight (λ i. 0)) (eight (λ i. 0)) ≡ account_of t masks
+unfolding account_of release_count ticks_run
 no-totals t masks bad =
-    ap (λ r. accountFrom r (eight (λ i. 0)) (eight (λ i. 0))) (replayed-refused t masks bad)
-    ∙ ap₂ (accountFrom (replayed t masks))
-    (eight-same (λ i. 0) (releaseCount t masks) (λ i h. sym (none-counted t (releases i) start masks bad)))
-    (eight-same (λ i. 0) (ticksRun t masks) (λ i h. sym (none-counted t (runsIn t i) start masks bad)))
+    ap (λ r. account_from r (eight (λ i. 0)) (eight (λ i. 0))) (replayed_refused t masks bad)
+    ∙ ap₂ (account_from (replayed t masks))
+    (eight_same (λ i. 0) (release_count t masks) (λ i h. sym (none_counted t (releases i) start masks bad)))
+    (eight_same (λ i. 0) (ticks_run t masks) (λ i h. sym (none_counted t (runs_in t i) start masks bad)))
 
 -- ---- the replay
 
-first : (t : Table) (masks : List ℕ) → 0 < tableFault t → start ≡ (played t start 0 masks).state
+first : (t : Table) (masks : List ℕ) → 0 < table_fault t → start ≡ (played t start 0 masks).state
 unfolding played
 first t [] bad = refl
-first t (mask ∷ masks) bad = rw (sym (ticked-refused t start mask (refusal-fault t start mask bad)))
+first t (mask ∷ masks) bad = rw (sym (ticked_refused t start mask (refusal_fault t start mask bad)))
 
 -- the state of a replay is that of the play from the start, also where the table is refused
-replayed-state : (t : Table) (masks : List ℕ) → (replayed t masks).state ≡ (played t start 0 masks).state
-replayed-state t masks =
-    by_bool (ltb 0 (tableFault t))
+replayed_state : (t : Table) (masks : List ℕ) → (replayed t masks).state ≡ (played t start 0 masks).state
+replayed_state t masks =
+    by_bool (ltb 0 (table_fault t))
     (λ e.
-    let bad = ltb-true 0 (tableFault t) e in
-    ap (λ r. r.state) (sym (replayed-refused t masks bad)) ∙ first t masks bad)
-    (λ e. ap (λ r. r.state) (sym (replayed-played t masks (ltb-false 0 (tableFault t) e))))
+    let bad = ltb-true 0 (table_fault t) e in
+    ap (λ r. r.state) (sym (replayed_refused t masks bad)) ∙ first t masks bad)
+    (λ e. ap (λ r. r.state) (sym (replayed_played t masks (ltb-false 0 (table_fault t) e))))
 
 -- THEOREM: whatever table and list, and whatever the answer, the totals balance
-pub balance : (t : Table) (masks : List ℕ) → Balanced t (accountOf t masks).totals
-unfolding accountOf releaseCount ticksRun
+pub balance : (t : Table) (masks : List ℕ) → Balanced t (account_of t masks).totals
+unfolding account_of release_count ticks_run
 balance t masks =
     record {
       each = λ i h.
-          rw (eight-at 0 (releaseCount t masks) i h, eight-at 0 (ticksRun t masks) i h, replayed-state t masks)
-          (omega (arith, played-balance t i h start 0 masks, eight-at {A = ℕ} 0 (λ j. 0) i h));
+          rw (eight_at 0 (release_count t masks) i h, eight_at 0 (ticks_run t masks) i h, replayed_state t masks)
+          (omega (arith, played-balance t i h start 0 masks, eight_at {A = ℕ} 0 (λ j. 0) i h));
     }
 
 -- LAW: the answer and the state of an account are those of the replay, and its totals balance
 pub account-told :
-    (t : Table) (masks : List ℕ) {r : Account} → r ≡ accountOf t masks
-    → (replayAnswer r.replayed ≡ replayAnswer (replayed t masks)) × (r.replayed.state ≡ (replayed t masks).state)
-    × (r.totals ≡ (accountOf t masks).totals) × Balanced t r.totals × (replayTick r.replayed.answer ≤ length masks)
-unfolding accountOf
+    (t : Table) (masks : List ℕ) {r : Account} → r ≡ account_of t masks
+    → (replay_answer r.replayed ≡ replay_answer (replayed t masks)) × (r.replayed.state ≡ (replayed t masks).state)
+    × (r.totals ≡ (account_of t masks).totals) × Balanced t r.totals × (replay_tick r.replayed.answer ≤ length masks)
+unfolding account_of
 account-told t masks e =
     let same = ap (λ (x : Account). x.replayed) e in
     let told = replay-names t masks same in

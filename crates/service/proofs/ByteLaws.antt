@@ -9,16 +9,16 @@ use native.Mathlib.Numerals.{add-one, one-add}
 use lib.ListN.{length, get_or, drop, set, length-append, get_or-append}
 use lib.Seq.{sets, sets-eq, get_or-append-add}
 use borrow.Author.Tests.{lt-ltb, le-ltb}
-use Rattle.tasks.proofs.Stores.{Storing, storing-start, storing-step, storing-last}
-use Rattle.service.specs.Bytes.{low_first, lowAt, rowBytes, rows_of, totalsBytes, totalsSpace}
+use Rattle.tasks.proofs.Stores.{Storing, storing_start, storing-step, storing_last}
+use Rattle.service.specs.Bytes.{low_first, low_at, row_bytes, rows_of, totals_bytes, totals_space}
 use Rattle.service.specs.declared.totals.Totals.{Totals}
 
 -- ---- a number
 
-pub low-length : (k n : ℕ) → length (low_first k n) ≡ k
+pub low_length : (k n : ℕ) → length (low_first k n) ≡ k
 unfolding low_first
-low-length zero n = refl
-low-length (suc k) n = ap suc (low-length k (n / 256))
+low_length zero n = refl
+low_length (suc k) n = ap suc (low_length k (n / 256))
 
 module _ {old : List ℕ} {at : ℕ} {whole : List ℕ} where
   -- the lowest byte is written
@@ -30,36 +30,36 @@ module _ {old : List ℕ} {at : ℕ} {whole : List ℕ} where
 
 -- ---- the three numbers of a task
 
-pub row-length : (a b c : ℕ) → length (rowBytes a b c) ≡ 24
-unfolding rowBytes
-row-length a b c =
+pub row_length : (a b c : ℕ) → length (row_bytes a b c) ≡ 24
+unfolding row_bytes
+row_length a b c =
     let x = low_first 8 a in
     let y = low_first 8 b in
     let z = low_first 8 c in
-    omega (arith, length-append x (y ++ z), length-append y z, low-length 8 a, low-length 8 b, low-length 8 c)
+    omega (arith, length-append x (y ++ z), length-append y z, low_length 8 a, low_length 8 b, low_length 8 c)
 
 pub row_put :
     (old : List ℕ) (at a b c : ℕ) {one two three : List ℕ} → at + 24 ≤ length old → one ≡ sets old at (low_first 8 a)
-    → two ≡ sets one (at + 8) (low_first 8 b) → three ≡ sets two (at + 16) (low_first 8 c) → three ≡ sets old at (rowBytes a b c)
-unfolding rowBytes
+    → two ≡ sets one (at + 8) (low_first 8 b) → three ≡ sets two (at + 16) (low_first 8 c) → three ≡ sets old at (row_bytes a b c)
+unfolding row_bytes
 row_put old at a b c room e f g =
     let x = low_first 8 a in
     let y = low_first 8 b in
     let z = low_first 8 c in
-    let s = storing-start old at (x ++ (y ++ z)) (omega (arith, length-append x (y ++ z), length-append y z, low-length 8 a, low-length 8 b, low-length 8 c)) in
-    let s₁ = storing-step x (y ++ z) s {at' = at + 8} e (omega (arith, low-length 8 a)) in
-    let s₂ = storing-step y z s₁ {at' = at + 16} f (omega (arith, low-length 8 b)) in
-    storing-last z s₂ g
+    let s = storing_start old at (x ++ (y ++ z)) (omega (arith, length-append x (y ++ z), length-append y z, low_length 8 a, low_length 8 b, low_length 8 c)) in
+    let s₁ = storing-step x (y ++ z) s {at' = at + 8} e (omega (arith, low_length 8 a)) in
+    let s₂ = storing-step y z s₁ {at' = at + 16} f (omega (arith, low_length 8 b)) in
+    storing_last z s₂ g
 
 -- ---- the rows
 
 module _ (x : Totals) where
-  rows-length : (n : ℕ) → length (rows_of x n) ≡ 24 * n
+  rows_length : (n : ℕ) → length (rows_of x n) ≡ 24 * n
   unfolding rows_of
-  rows-length zero = refl
-  rows-length (suc n) =
-      let row = rowBytes (get_or x.releases n 0) (get_or x.ran n 0) (get_or x.left n 0) in
-      omega (arith, length-append (rows_of x n) row, rows-length n, row-length (get_or x.releases n 0) (get_or x.ran n 0) (get_or x.left n 0))
+  rows_length zero = refl
+  rows_length (suc n) =
+      let row = row_bytes (get_or x.releases n 0) (get_or x.ran n 0) (get_or x.left n 0) in
+      omega (arith, length-append (rows_of x n) row, rows_length n, row_length (get_or x.releases n 0) (get_or x.ran n 0) (get_or x.left n 0))
 
   pub rows_none : (l : List ℕ) → l ≡ sets l 0 (rows_of x 0)
   unfolding rows_of
@@ -67,24 +67,24 @@ module _ (x : Totals) where
 
   pub rows-turn :
       (l : List ℕ) (n : ℕ) → 24 * n + 24 ≤ length l
-      → sets (sets l 0 (rows_of x n)) (24 * n) (rowBytes (get_or x.releases n 0) (get_or x.ran n 0) (get_or x.left n 0)) ≡ sets l 0 (rows_of x (n + 1))
+      → sets (sets l 0 (rows_of x n)) (24 * n) (row_bytes (get_or x.releases n 0) (get_or x.ran n 0) (get_or x.left n 0)) ≡ sets l 0 (rows_of x (n + 1))
   unfolding rows_of
   rows-turn l n h =
-      let row = rowBytes (get_or x.releases n 0) (get_or x.ran n 0) (get_or x.left n 0) in
-      let size = row-length (get_or x.releases n 0) (get_or x.ran n 0) (get_or x.left n 0) in
-      let whole = storing-start l 0 (rows_of x n ++ row) (omega (arith, length-append (rows_of x n) row, rows-length n, size)) in
-      rw (add-one n) (storing-step (rows_of x n) row whole {at' = 24 * n} refl (omega (arith, rows-length n))).stored
+      let row = row_bytes (get_or x.releases n 0) (get_or x.ran n 0) (get_or x.left n 0) in
+      let size = row_length (get_or x.releases n 0) (get_or x.ran n 0) (get_or x.left n 0) in
+      let whole = storing_start l 0 (rows_of x n ++ row) (omega (arith, length-append (rows_of x n) row, rows_length n, size)) in
+      rw (add-one n) (storing-step (rows_of x n) row whole {at' = 24 * n} refl (omega (arith, rows_length n))).stored
 
   -- ---- the space
 
-  pub space-short : (out : List ℕ) → length out < 192 → out ≡ totalsSpace x out
-  unfolding totalsSpace
-  space-short out h = rw (lt-ltb (length out) 192 h)
+  pub space_short : (out : List ℕ) → length out < 192 → out ≡ totals_space x out
+  unfolding totals_space
+  space_short out h = rw (lt-ltb (length out) 192 h)
 
-  pub space-front : (out : List ℕ) → 192 ≤ length out → sets out 0 (totalsBytes x) ≡ totalsSpace x out
-  unfolding totalsSpace
-  space-front out h =
-      let size = rows-length 8 in
+  pub space_front : (out : List ℕ) → 192 ≤ length out → sets out 0 (totals_bytes x) ≡ totals_space x out
+  unfolding totals_space
+  space_front out h =
+      let size = rows_length 8 in
       let e : 0 + length (rows_of x 8) ≡ 192 = omega arith in
       rw (le-ltb (length out) 192 h) (sets-eq (rows_of x 8) out 0 (omega arith) ∙ ap (λ n. rows_of x 8 ++ drop n out) e)
 
@@ -92,12 +92,12 @@ module _ (x : Totals) where
 
   row-byte :
       (n i k : ℕ) → i < n → k < 24
-      → get_or (rows_of x n) (24 * i + k) 0 ≡ get_or (rowBytes (get_or x.releases i 0) (get_or x.ran i 0) (get_or x.left i 0)) k 0
+      → get_or (rows_of x n) (24 * i + k) 0 ≡ get_or (row_bytes (get_or x.releases i 0) (get_or x.ran i 0) (get_or x.left i 0)) k 0
   unfolding rows_of
   row-byte zero i k h b = absurd (let z : i < 0 = h in omega arith)
   row-byte (suc n) i k h b =
-      let l = rows-length n in
-      let row = rowBytes (get_or x.releases n 0) (get_or x.ran n 0) (get_or x.left n 0) in
+      let l = rows_length n in
+      let row = row_bytes (get_or x.releases n 0) (get_or x.ran n 0) (get_or x.left n 0) in
       elim (dec_lt i n) [
         | yes m ↦ get_or-append (rows_of x n) row 0 (24 * i + k) (omega arith) ∙ row-byte n i k m b
         | no m ↦
@@ -108,17 +108,17 @@ module _ (x : Totals) where
   -- byte k of task i's row in a space with room
   space-byte :
       (out : List ℕ) → 192 ≤ length out → (i k : ℕ) → i < 8 → k < 24
-      → get_or (totalsSpace x out) (24 * i + k) 0 ≡ get_or (rowBytes (get_or x.releases i 0) (get_or x.ran i 0) (get_or x.left i 0)) k 0
-  unfolding totalsSpace
+      → get_or (totals_space x out) (24 * i + k) 0 ≡ get_or (row_bytes (get_or x.releases i 0) (get_or x.ran i 0) (get_or x.left i 0)) k 0
+  unfolding totals_space
   space-byte out room i k h b =
-      let size = rows-length 8 in
+      let size = rows_length 8 in
       rw (le-ltb (length out) 192 room)
       (get_or-append (rows_of x 8) (drop 192 out) 0 (24 * i + k) (omega arith) ∙ row-byte 8 i k h b)
 
 -- the bytes of a number, wherever they stand, are read as the number
 pub low_read :
-    (k n : ℕ) (w : List ℕ) (at : ℕ) → n < 256 ^ k → ((j : ℕ) → j < k → get_or w (at + j) 0 ≡ get_or (low_first k n) j 0) → lowAt k w at ≡ n
-unfolding low_first lowAt
+    (k n : ℕ) (w : List ℕ) (at : ℕ) → n < 256 ^ k → ((j : ℕ) → j < k → get_or w (at + j) 0 ≡ get_or (low_first k n) j 0) → low_at k w at ≡ n
+unfolding low_first low_at
 low_read zero n w at h f = let z : n < 1 = h in omega arith
 low_read (suc k) n w at h f =
     let low : get_or w (at + 0) 0 ≡ n % 256 = f 0 (omega arith) in
@@ -132,39 +132,39 @@ low_read (suc k) n w at h f =
 -- ---- the parts of a row
 
 module _ (a b c j : ℕ) (h : j < 8) where
-  part-first : get_or (rowBytes a b c) (0 + j) 0 ≡ get_or (low_first 8 a) j 0
-  unfolding rowBytes
-  part-first =
-      ap (λ k. get_or (rowBytes a b c) k 0) (zero-add j) ∙ get_or-append (low_first 8 a) (low_first 8 b ++ low_first 8 c) 0 j (omega (arith, low-length 8 a))
+  part_first : get_or (row_bytes a b c) (0 + j) 0 ≡ get_or (low_first 8 a) j 0
+  unfolding row_bytes
+  part_first =
+      ap (λ k. get_or (row_bytes a b c) k 0) (zero-add j) ∙ get_or-append (low_first 8 a) (low_first 8 b ++ low_first 8 c) 0 j (omega (arith, low_length 8 a))
 
-  part-second : get_or (rowBytes a b c) (8 + j) 0 ≡ get_or (low_first 8 b) j 0
-  unfolding rowBytes
-  part-second =
-      (rw (low-length 8 a) at (get_or-append-add (low_first 8 a) (low_first 8 b ++ low_first 8 c) j 0))
-      ∙ get_or-append (low_first 8 b) (low_first 8 c) 0 j (omega (arith, low-length 8 b))
+  part_second : get_or (row_bytes a b c) (8 + j) 0 ≡ get_or (low_first 8 b) j 0
+  unfolding row_bytes
+  part_second =
+      (rw (low_length 8 a) at (get_or-append-add (low_first 8 a) (low_first 8 b ++ low_first 8 c) j 0))
+      ∙ get_or-append (low_first 8 b) (low_first 8 c) 0 j (omega (arith, low_length 8 b))
 
-  part-third : get_or (rowBytes a b c) (16 + j) 0 ≡ get_or (low_first 8 c) j 0
-  unfolding rowBytes
-  part-third =
-      ap (λ k. get_or (rowBytes a b c) k 0) (add_assoc 8 8 j)
-      ∙ (rw (low-length 8 a) at (get_or-append-add (low_first 8 a) (low_first 8 b ++ low_first 8 c) (8 + j) 0))
-      ∙ (rw (low-length 8 b) at (get_or-append-add (low_first 8 b) (low_first 8 c) j 0))
+  part_third : get_or (row_bytes a b c) (16 + j) 0 ≡ get_or (low_first 8 c) j 0
+  unfolding row_bytes
+  part_third =
+      ap (λ k. get_or (row_bytes a b c) k 0) (add_assoc 8 8 j)
+      ∙ (rw (low_length 8 a) at (get_or-append-add (low_first 8 a) (low_first 8 b ++ low_first 8 c) (8 + j) 0))
+      ∙ (rw (low_length 8 b) at (get_or-append-add (low_first 8 b) (low_first 8 c) j 0))
 
 -- LAW: in a space with room the three numbers of a task are read back
 module _ (x : Totals) (out : List ℕ) (room : 192 ≤ length out) (i : ℕ) (h : i < 8) where
   at_row :
       (n p : ℕ) → p + 8 ≤ 24 → n < 256 ^ 8
-      → ((j : ℕ) → j < 8 → get_or (rowBytes (get_or x.releases i 0) (get_or x.ran i 0) (get_or x.left i 0)) (p + j) 0 ≡ get_or (low_first 8 n) j 0)
-      → lowAt 8 (totalsSpace x out) (24 * i + p) ≡ n
+      → ((j : ℕ) → j < 8 → get_or (row_bytes (get_or x.releases i 0) (get_or x.ran i 0) (get_or x.left i 0)) (p + j) 0 ≡ get_or (low_first 8 n) j 0)
+      → low_at 8 (totals_space x out) (24 * i + p) ≡ n
   at_row n p b l f =
-      low_read 8 n (totalsSpace x out) (24 * i + p) l
-      (λ j k. ap (λ m. get_or (totalsSpace x out) m 0) (add_assoc (24 * i) p j) ∙ space-byte x out room i (p + j) h (omega arith) ∙ f j k)
+      low_read 8 n (totals_space x out) (24 * i + p) l
+      (λ j k. ap (λ m. get_or (totals_space x out) m 0) (add_assoc (24 * i) p j) ∙ space-byte x out room i (p + j) h (omega arith) ∙ f j k)
 
-  pub releases-read : get_or x.releases i 0 < 256 ^ 8 → lowAt 8 (totalsSpace x out) (24 * i + 0) ≡ get_or x.releases i 0
-  releases-read l = at_row (get_or x.releases i 0) 0 (omega arith) l (λ j k. part-first _ _ _ j k)
+  pub releases_read : get_or x.releases i 0 < 256 ^ 8 → low_at 8 (totals_space x out) (24 * i + 0) ≡ get_or x.releases i 0
+  releases_read l = at_row (get_or x.releases i 0) 0 (omega arith) l (λ j k. part_first _ _ _ j k)
 
-  pub ran-read : get_or x.ran i 0 < 256 ^ 8 → lowAt 8 (totalsSpace x out) (24 * i + 8) ≡ get_or x.ran i 0
-  ran-read l = at_row (get_or x.ran i 0) 8 (omega arith) l (λ j k. part-second _ _ _ j k)
+  pub ran_read : get_or x.ran i 0 < 256 ^ 8 → low_at 8 (totals_space x out) (24 * i + 8) ≡ get_or x.ran i 0
+  ran_read l = at_row (get_or x.ran i 0) 8 (omega arith) l (λ j k. part_second _ _ _ j k)
 
-  pub left-read : get_or x.left i 0 < 256 ^ 8 → lowAt 8 (totalsSpace x out) (24 * i + 16) ≡ get_or x.left i 0
-  left-read l = at_row (get_or x.left i 0) 16 (omega arith) l (λ j k. part-third _ _ _ j k)
+  pub left_read : get_or x.left i 0 < 256 ^ 8 → low_at 8 (totals_space x out) (24 * i + 16) ≡ get_or x.left i 0
+  left_read l = at_row (get_or x.left i 0) 16 (omega arith) l (λ j k. part_third _ _ _ j k)

@@ -6,8 +6,8 @@ use mathlib.Core.List.{List}
 use native.Mathlib.Omega.{arith}
 use lib.ListN.{length, drop, get_or}
 use Rattle.lists.specs.Lists.{eight, pick}
-use Rattle.lists.proofs.Fill.{eight-at}
-use Rattle.tasks.specs.Table.{tableFault}
+use Rattle.lists.proofs.Fill.{eight_at}
+use Rattle.tasks.specs.Table.{table_fault}
 use Rattle.tasks.specs.State.{start, improper}
 use Rattle.tasks.specs.Tick.{bit, illegal, released, chosen, ran, missed, answered, ticked}
 use Rattle.tasks.specs.Replay.{played}
@@ -17,82 +17,82 @@ use Rattle.tasks.specs.declared.tick.TickAnswer.TheVariants as Tick
 use Rattle.tasks.specs.declared.play.Outcome.TheVariants.{Kept, Missed}
 use Rattle.tasks.specs.declared.play.ReplayAnswer.TheVariants.{Played, Refused}
 use Rattle.tasks.specs.declared.play.Replayed.{Replayed}
-use Rattle.tasks.proofs.Proper.{start-proper}
-use Rattle.tasks.proofs.Answered.{ticked-steps, ticked-illegal, ticked-proper}
-use Rattle.tasks.proofs.Played.{played-step, played-end, replayed-played}
-use Rattle.service.specs.Totals.{countTicks, releases, runsIn, releaseCount, ticksRun, accountFrom, accountOf}
-use Rattle.service.specs.Raised.{Room, raisedAt}
-use Rattle.service.proofs.Counting.{Totaled, totaled-start, totaled-room, totaled-end, totaled-refused, totaled-next, totaled-missed}
+use Rattle.tasks.proofs.Proper.{start_proper}
+use Rattle.tasks.proofs.Answered.{ticked-steps, ticked-illegal, ticked_proper}
+use Rattle.tasks.proofs.Played.{played-step, played-end, replayed_played}
+use Rattle.service.specs.Totals.{count_ticks, releases, runs_in, release_count, ticks_run, account_from, account_of}
+use Rattle.service.specs.Raised.{Room, raised_at}
+use Rattle.service.proofs.Counting.{Totaled, totaled_start, totaled_room, totaled_end, totaled_refused, totaled_next, totaled_missed}
 
 -- after i masks the state is s, and the totals so far are `more` releases and `longer` ticks
 pub record Playing (t : Table) (l : List ℕ) (s : State) (i : ℕ) (more longer : List ℕ) : Type 0 where
   pub proper : improper t s ≡ false
   pub rest : played t start 0 l ≡ played t s i (drop i l)
   pub released : Totaled t releases l s i more
-  pub run : Totaled t (runsIn t) l s i longer
+  pub run : Totaled t (runs_in t) l s i longer
 
 module _ (t : Table) (l : List ℕ) where
-  pub playing-start : Playing t l start 0 (eight (λ j. 0)) (eight (λ j. 0))
-  playing-start =
-      record { proper = start-proper t; rest = refl; released = totaled-start t releases l; run = totaled-start t (runsIn t) l }
+  pub playing_start : Playing t l start 0 (eight (λ j. 0)) (eight (λ j. 0))
+  playing_start =
+      record { proper = start_proper t; rest = refl; released = totaled_start t releases l; run = totaled_start t (runs_in t) l }
 
   -- each total can be raised
   pub playing-room :
       {s : State} {i : ℕ} {more longer : List ℕ} → Playing t l s i more longer → i < length l → length l ≤ 18446744073709551615
       → Room more × Room longer
-  playing-room x h long = (totaled-room t releases l x.released h long, totaled-room t (runsIn t) l x.run h long)
+  playing-room x h long = (totaled_room t releases l x.released h long, totaled_room t (runs_in t) l x.run h long)
 
-  module _ (valid : tableFault t ≡ 0) where
+  module _ (valid : table_fault t ≡ 0) where
     -- the replay and both totals make the account
     account-is :
-        {r : Replayed} {more longer : List ℕ} → played t start 0 l ≡ r → more ≡ eight (λ j. countTicks t (releases j) start l)
-        → longer ≡ eight (λ j. countTicks t (runsIn t j) start l) → accountFrom r more longer ≡ accountOf t l
-    unfolding accountOf releaseCount ticksRun
-    account-is e f g = rw (f, g, ← e, ← replayed-played t l (omega (arith, valid)))
+        {r : Replayed} {more longer : List ℕ} → played t start 0 l ≡ r → more ≡ eight (λ j. count_ticks t (releases j) start l)
+        → longer ≡ eight (λ j. count_ticks t (runs_in t j) start l) → account_from r more longer ≡ account_of t l
+    unfolding account_of release_count ticks_run
+    account-is e f g = rw (f, g, ← e, ← replayed_played t l (omega (arith, valid)))
 
     module _ {s : State} {i : ℕ} {more longer : List ℕ} (x : Playing t l s i more longer) where
       -- no mask is left
-      pub playing-kept : length l ≤ i → accountFrom (record { answer = Played Kept; state = s }) more longer ≡ accountOf t l
-      playing-kept h =
-          account-is (x.rest ∙ played-end t s l i h) (totaled-end t releases l x.released h) (totaled-end t (runsIn t) l x.run h)
+      pub playing_kept : length l ≤ i → account_from (record { answer = Played Kept; state = s }) more longer ≡ account_of t l
+      playing_kept h =
+          account-is (x.rest ∙ played-end t s l i h) (totaled_end t releases l x.released h) (totaled_end t (runs_in t) l x.run h)
 
       module _ (h : i < length l) where
         -- the next mask is not legal
         pub playing-refused :
-            illegal t s (get_or l i 0) ≡ true → accountFrom (record { answer = Refused 11 (i + 1); state = s }) more longer ≡ accountOf t l
+            illegal t s (get_or l i 0) ≡ true → account_from (record { answer = Refused 11 (i + 1); state = s }) more longer ≡ account_of t l
         playing-refused bad =
             let e = ticked-illegal t s (get_or l i 0) valid x.proper bad in
-            account-is (x.rest ∙ played-step t s l i h (sym e) refl) (totaled-refused t releases l x.released h e) (totaled-refused t (runsIn t) l x.run h e)
+            account-is (x.rest ∙ played-step t s l i h (sym e) refl) (totaled_refused t releases l x.released h e) (totaled_refused t (runs_in t) l x.run h e)
 
         -- the next mask is legal: the steps of its tick, and the totals raised by it
         module _
             (legal : illegal t s (get_or l i 0) ≡ false)
             {named run : List Bool} {more' longer' : List ℕ} {r next : State}
-            (named-is : named ≡ eight (bit (get_or l i 0))) (more-is : more' ≡ eight (raisedAt more named))
-            (r-is : r ≡ released t s (get_or l i 0)) (run_is : run ≡ chosen t r) (longer-is : longer' ≡ eight (raisedAt longer run))
+            (named-is : named ≡ eight (bit (get_or l i 0))) (more-is : more' ≡ eight (raised_at more named))
+            (r-is : r ≡ released t s (get_or l i 0)) (run_is : run ≡ chosen t r) (longer-is : longer' ≡ eight (raised_at longer run))
             (next-is : next ≡ ran r run)
           where
             which : (j : ℕ) → j < 8 → get_or named j false ≡ releases j s (get_or l i 0)
-            which j b = ap (λ (k : List Bool). get_or k j false) named-is ∙ eight-at false (bit (get_or l i 0)) j b
+            which j b = ap (λ (k : List Bool). get_or k j false) named-is ∙ eight_at false (bit (get_or l i 0)) j b
 
-            who : (j : ℕ) → j < 8 → get_or run j false ≡ runsIn t j s (get_or l i 0)
+            who : (j : ℕ) → j < 8 → get_or run j false ≡ runs_in t j s (get_or l i 0)
             who j b = ap (λ (k : List Bool). get_or k j false) (run_is ∙ ap (chosen t) r-is)
 
             now : ticked t s (get_or l i 0) ≡ answered (pick (missed t next) Tick.Missed Tick.Next) next
             now = ticked-steps t s (get_or l i 0) r-is run_is next-is valid x.proper legal
 
             pub playing-missed :
-                missed t next ≡ true → accountFrom (record { answer = Played (Missed (i + 1)); state = next }) more' longer' ≡ accountOf t l
+                missed t next ≡ true → account_from (record { answer = Played (Missed (i + 1)); state = next }) more' longer' ≡ account_of t l
             playing-missed m =
                 let e : ticked t s (get_or l i 0) ≡ answered Tick.Missed next = rw m at now in
-                account-is (x.rest ∙ played-step t s l i h (sym e) refl) (totaled-missed t releases l x.released h named which more-is e) (totaled-missed t (runsIn t) l x.run h run who longer-is e)
+                account-is (x.rest ∙ played-step t s l i h (sym e) refl) (totaled_missed t releases l x.released h named which more-is e) (totaled_missed t (runs_in t) l x.run h run who longer-is e)
 
-            pub playing-next : missed t next ≡ false → Playing t l next (i + 1) more' longer'
-            playing-next m =
+            pub playing_next : missed t next ≡ false → Playing t l next (i + 1) more' longer'
+            playing_next m =
                 let e : ticked t s (get_or l i 0) ≡ answered Tick.Next next = rw m at now in
                 record {
-                  proper = rw e at (ticked-proper t s (get_or l i 0) (ap (λ a. a.answer) e));
+                  proper = rw e at (ticked_proper t s (get_or l i 0) (ap (λ a. a.answer) e));
                   rest = x.rest ∙ played-step t s l i h (sym e) refl;
-                  released = totaled-next t releases l x.released h named which more-is e;
-                  run = totaled-next t (runsIn t) l x.run h run who longer-is e;
+                  released = totaled_next t releases l x.released h named which more-is e;
+                  run = totaled_next t (runs_in t) l x.run h run who longer-is e;
                 }

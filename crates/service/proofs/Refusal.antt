@@ -9,8 +9,8 @@ use lib.ListN.{take}
 use borrow.Author.Tests.{ltb-true, ltb-false}
 use Rattle.lists.specs.Lists.{eight, pick}
 use Rattle.lists.proofs.Bools.{by_bool}
-use Rattle.lists.proofs.Fill.{eight-same}
-use Rattle.tasks.specs.Table.{tableFault}
+use Rattle.lists.proofs.Fill.{eight_same}
+use Rattle.tasks.specs.Table.{table_fault}
 use Rattle.tasks.specs.State.{start}
 use Rattle.tasks.specs.Tick.{after, missed, refusal}
 use Rattle.tasks.specs.Replay.{played, replayed}
@@ -18,24 +18,24 @@ use Rattle.tasks.specs.declared.state.State.{State}
 use Rattle.tasks.specs.declared.table.Table.{Table}
 use Rattle.tasks.specs.declared.play.Outcome.TheVariants.{Kept}
 use Rattle.tasks.specs.declared.play.ReplayAnswer.TheVariants.{Played, Refused}
-use Rattle.tasks.proofs.Answered.{ticked-refused, ticked-missed, ticked-next}
-use Rattle.tasks.proofs.Played.{replayed-played}
-use Rattle.service.specs.Totals.{countTicks, releases, runsIn, releaseCount, ticksRun, accountFrom, accountOf}
+use Rattle.tasks.proofs.Answered.{ticked_refused, ticked-missed, ticked-next}
+use Rattle.tasks.proofs.Played.{replayed_played}
+use Rattle.service.specs.Totals.{count_ticks, releases, runs_in, release_count, ticks_run, account_from, account_of}
 
 -- tick n is refused: what is known of the masks before it, played from state s after k ticks
 record Front (t : Table) (s : State) (k : ℕ) (l : List ℕ) (n : ℕ) : Type 0 where
   later : k < n
   kept : played t s k (take (n - (k + 1)) l) ≡ record { answer = Played Kept; state = (played t s k l).state }
-  counts : (test : State → ℕ → Bool) → countTicks t test s (take (n - (k + 1)) l) ≡ countTicks t test s l
+  counts : (test : State → ℕ → Bool) → count_ticks t test s (take (n - (k + 1)) l) ≡ count_ticks t test s l
 
 module _ (t : Table) where
   front : (s : State) (k : ℕ) (l : List ℕ) (r n : ℕ) → (played t s k l).answer ≡ Refused r n → Front t s k l n
-  unfolding played countTicks
+  unfolding played count_ticks
   front s k [] r n e = absurd (let z : ◌≡◌ {A = ℕ} 0 1 = cc in omega arith)
   front s k (mask ∷ masks) r n e =
       by_bool (ltb 0 (refusal t s mask))
       (λ b.
-      let now = sym (ticked-refused t s mask (ltb-true 0 (refusal t s mask) b)) in
+      let now = sym (ticked_refused t s mask (ltb-true 0 (refusal t s mask) b)) in
       let q : Refused (refusal t s mask) (k + 1) ≡ Refused r n = rw now at e in
       let tick : n ≡ k + 1 = cc in
       let none : n - (k + 1) ≡ 0 = omega arith in
@@ -52,17 +52,17 @@ module _ (t : Table) where
 
 -- LAW: where a tick is refused, the masks before it are kept, with the state and the totals that the refusal returns
 pub refused-front :
-    (t : Table) (l : List ℕ) (r n : ℕ) → tableFault t ≡ 0 → (replayed t l).answer ≡ Refused r n
-    → accountOf t (take (n - 1) l) ≡ accountFrom (record { answer = Played Kept; state = (replayed t l).state }) (eight (releaseCount t l)) (eight (ticksRun t l))
-unfolding accountOf releaseCount ticksRun
+    (t : Table) (l : List ℕ) (r n : ℕ) → table_fault t ≡ 0 → (replayed t l).answer ≡ Refused r n
+    → account_of t (take (n - 1) l) ≡ account_from (record { answer = Played Kept; state = (replayed t l).state }) (eight (release_count t l)) (eight (ticks_run t l))
+unfolding account_of release_count ticks_run
 refused-front t l r n valid e =
-    let none : tableFault t ≤ 0 = omega arith in
-    let whole = replayed-played t l none in
+    let none : table_fault t ≤ 0 = omega arith in
+    let whole = replayed_played t l none in
     let f = front t start 0 l r n (ap (λ a. a.answer) whole ∙ e) in
     let less : n - (0 + 1) ≡ n - 1 = omega arith in
-    let counts : (test : State → ℕ → Bool) → countTicks t test start (take (n - 1) l) ≡ countTicks t test start l = λ test. rw less at (f.counts test) in
+    let counts : (test : State → ℕ → Bool) → count_ticks t test start (take (n - 1) l) ≡ count_ticks t test start l = λ test. rw less at (f.counts test) in
     let kept = rw (less, whole) at f.kept in
     λ x.
-    accountFrom ((sym (replayed-played t (take (n - 1) l) none) ∙ kept) x)
-    (eight-same (releaseCount t (take (n - 1) l)) (releaseCount t l) (λ i h. counts (releases i)) x)
-    (eight-same (ticksRun t (take (n - 1) l)) (ticksRun t l) (λ i h. counts (runsIn t i)) x)
+    account_from ((sym (replayed_played t (take (n - 1) l) none) ∙ kept) x)
+    (eight_same (release_count t (take (n - 1) l)) (release_count t l) (λ i h. counts (releases i)) x)
+    (eight_same (ticks_run t (take (n - 1) l)) (ticks_run t l) (λ i h. counts (runs_in t i)) x)

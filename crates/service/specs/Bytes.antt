@@ -11,26 +11,26 @@ low_first zero n = []
 low_first (suc k) n = n % 256 ∷ low_first k (n / 256)
 
 -- the number in the k bytes from a place on, low byte first
-unfoldable pub lowAt : ℕ → List ℕ → ℕ → ℕ
-lowAt zero w at = 0
-lowAt (suc k) w at = get_or w at 0 + 256 * lowAt k w (at + 1)
+unfoldable pub low_at : ℕ → List ℕ → ℕ → ℕ
+low_at zero w at = 0
+low_at (suc k) w at = get_or w at 0 + 256 * low_at k w (at + 1)
 
 -- the three numbers of a task
-unfoldable pub rowBytes : ℕ → ℕ → ℕ → List ℕ
-rowBytes releases ran left = low_first 8 releases ++ (low_first 8 ran ++ low_first 8 left)
+unfoldable pub row_bytes : ℕ → ℕ → ℕ → List ℕ
+row_bytes releases ran left = low_first 8 releases ++ (low_first 8 ran ++ low_first 8 left)
 
 -- those of the first n tasks
 unfoldable pub rows_of : Totals → ℕ → List ℕ
 rows_of x zero = []
-rows_of x (suc n) = rows_of x n ++ rowBytes (get_or x.releases n 0) (get_or x.ran n 0) (get_or x.left n 0)
+rows_of x (suc n) = rows_of x n ++ row_bytes (get_or x.releases n 0) (get_or x.ran n 0) (get_or x.left n 0)
 
-abbrev pub totalsBytes : Totals → List ℕ
-totalsBytes x = rows_of x 8
+abbrev pub totals_bytes : Totals → List ℕ
+totals_bytes x = rows_of x 8
 
 -- totals written to a space that may be too short for them (12)
-abbrev pub totalsWriting : List ℕ → Writing
-totalsWriting out = pick (ltb (length out) 192) (Writing.Refused 12) (Writing.Written 192)
+abbrev pub totals_writing : List ℕ → Writing
+totals_writing out = pick (ltb (length out) 192) (Writing.Refused 12) (Writing.Written 192)
 
 -- .. and the space afterwards: the totals at its front, later bytes as they were; a refusal leaves all
-unfoldable pub totalsSpace : Totals → List ℕ → List ℕ
-totalsSpace x out = pick (ltb (length out) 192) out (totalsBytes x ++ drop 192 out)
+unfoldable pub totals_space : Totals → List ℕ → List ℕ
+totals_space x out = pick (ltb (length out) 192) out (totals_bytes x ++ drop 192 out)

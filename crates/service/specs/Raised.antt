@@ -7,5 +7,5 @@ pub record Room (numbers : List ℕ) : Type 0 where
   pub each : (i : ℕ) → i < 8 → get_or numbers i 0 < 18446744073709551615
 
 -- number i, and one more where its task is among those given
-unfoldable pub raisedAt : List ℕ → List Bool → ℕ → ℕ
-raisedAt numbers tasks i = get_or numbers i 0 + pick (get_or tasks i false) 1 0
+unfoldable pub raised_at : List ℕ → List Bool → ℕ → ℕ
+raised_at numbers tasks i = get_or numbers i 0 + pick (get_or tasks i false) 1 0

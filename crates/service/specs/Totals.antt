@@ -15,16 +15,16 @@ use Rattle.service.specs.declared.totals.Account.{Account}
 -- ---- the ticks played
 
 -- what a tick adds to a count, where `rest` is that of the masks after it: a tick that is refused is not counted, and after a miss no mask is read
-abbrev pub countNext : ℕ → ℕ → TickAnswer → ℕ
-countNext one rest Next = one + rest
-countNext one rest Missed = one
-countNext one rest (Refused r) = 0
+abbrev pub count_next : ℕ → ℕ → TickAnswer → ℕ
+count_next one rest Next = one + rest
+count_next one rest Missed = one
+count_next one rest (Refused r) = 0
 
 -- how many ticks of a list, played from state s, pass a test of the state before the tick and of its mask
-unfoldable pub countTicks : Table → (State → ℕ → Bool) → State → List ℕ → ℕ
-countTicks t test s [] = 0
-countTicks t test s (mask ∷ masks) =
-    countNext (pick (test s mask) 1 0) (countTicks t test (ticked t s mask).state masks) (ticked t s mask).answer
+unfoldable pub count_ticks : Table → (State → ℕ → Bool) → State → List ℕ → ℕ
+count_ticks t test s [] = 0
+count_ticks t test s (mask ∷ masks) =
+    count_next (pick (test s mask) 1 0) (count_ticks t test (ticked t s mask).state masks) (ticked t s mask).answer
 
 -- ---- the totals of task i, which is numbered from 0
 
@@ -33,26 +33,26 @@ abbrev pub releases : ℕ → State → ℕ → Bool
 releases i s mask = bit mask i
 
 -- it runs in a tick, "read off the choices of the ticks played, not off c"
-abbrev pub runsIn : Table → ℕ → State → ℕ → Bool
-runsIn t i s mask = get_or (chosen t (released t s mask)) i false
+abbrev pub runs_in : Table → ℕ → State → ℕ → Bool
+runs_in t i s mask = get_or (chosen t (released t s mask)) i false
 
 -- "number of releases"
-unfoldable pub releaseCount : Table → List ℕ → ℕ → ℕ
-releaseCount t masks i = countTicks t (releases i) start masks
+unfoldable pub release_count : Table → List ℕ → ℕ → ℕ
+release_count t masks i = count_ticks t (releases i) start masks
 
 -- "ticks in which it ran"
-unfoldable pub ticksRun : Table → List ℕ → ℕ → ℕ
-ticksRun t masks i = countTicks t (runsIn t i) start masks
+unfoldable pub ticks_run : Table → List ℕ → ℕ → ℕ
+ticks_run t masks i = count_ticks t (runs_in t i) start masks
 
 -- ---- a replay with its totals
 
 -- what a replay answers, with its releases and ticks: "work left at the end" is c of its state, that before the tick where one is refused
-abbrev pub accountFrom : Replayed → List ℕ → List ℕ → Account
-accountFrom r releases ran = record { replayed = r; totals = record { releases = releases; ran = ran; left = r.state.c } }
+abbrev pub account_from : Replayed → List ℕ → List ℕ → Account
+account_from r releases ran = record { replayed = r; totals = record { releases = releases; ran = ran; left = r.state.c } }
 
 -- for any table and list; a bad table (4 to 7) refuses every tick, so its totals are all 0
-unfoldable pub accountOf : Table → List ℕ → Account
-accountOf t masks = accountFrom (replayed t masks) (eight (releaseCount t masks)) (eight (ticksRun t masks))
+unfoldable pub account_of : Table → List ℕ → Account
+account_of t masks = account_from (replayed t masks) (eight (release_count t masks)) (eight (ticks_run t masks))
 
 -- ---- the balance
 

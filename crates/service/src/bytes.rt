@@ -1,8 +1,8 @@
 // The totals as bytes.
 ghost use Rattle.std.specs.Prelude.{◌≡◌, ◌+◌, ◌≤◌, length};
 ghost use Rattle.std.proofs.lemmas.List.Edits.{sets};
-ghost use Rattle.tasks.specs.Answers.{writingAnswer};
-ghost use Rattle.service.specs.Bytes.{low_first, rowBytes, totalsBytes, totalsWriting, totalsSpace};
+ghost use Rattle.tasks.specs.Answers.{writing_answer};
+ghost use Rattle.service.specs.Bytes.{low_first, row_bytes, totals_bytes, totals_writing, totals_space};
 
 use crate::totals::Totals;
 use tasks::Writing;
@@ -24,7 +24,7 @@ fn put_number(out: &mut [u8], at: usize, n: u64)
 // Writes the three numbers of a task from `at` on.
 fn put_row(out: &mut [u8], at: usize, releases: u64, ran: u64, left: u64)
     requires { at + 24 ≤ length out.old }
-    ensures { out.new ≡ sets out.old at (rowBytes releases ran left) }
+    ensures { out.new ≡ sets out.old at (row_bytes releases ran left) }
 {
     put_number(out, at, releases);
     put_number(out, at + 8, ran);
@@ -34,7 +34,7 @@ fn put_row(out: &mut [u8], at: usize, releases: u64, ran: u64, left: u64)
 // Writes the rows of all tasks to the front of a space that has room for them.
 fn put_rows(x: Totals, out: &mut [u8])
     requires { 192 ≤ length out.old }
-    ensures { out.new ≡ sets out.old 0 (totalsBytes x) }
+    ensures { out.new ≡ sets out.old 0 (totals_bytes x) }
 {
     let mut i: usize = 0;
     while i < 8 {
@@ -45,7 +45,7 @@ fn put_rows(x: Totals, out: &mut [u8])
 
 // Writes totals to the front of a space.
 pub fn write_totals(x: Totals, out: &mut [u8]) -> Writing
-    ensures { (writingAnswer result ≡ writingAnswer (totalsWriting out.old)) × (out.new ≡ totalsSpace x out.old) }
+    ensures { (writing_answer result ≡ writing_answer (totals_writing out.old)) × (out.new ≡ totals_space x out.old) }
 {
     if out.len() < 192 {
         return Writing::Refused(12);

@@ -1,9 +1,9 @@
 // The replay of a list, with the totals of each task.
 ghost use Rattle.std.specs.Prelude.{◌≡◌, ◌≤◌, length};
-ghost use Rattle.tasks.specs.Answers.{replayAnswer};
-ghost use Rattle.tasks.specs.Replay.{replayed, replayTick};
-ghost use Rattle.tasks.specs.Table.{tableFault};
-ghost use Rattle.service.specs.Totals.{accountOf, Balanced};
+ghost use Rattle.tasks.specs.Answers.{replay_answer};
+ghost use Rattle.tasks.specs.Replay.{replayed, replay_tick};
+ghost use Rattle.tasks.specs.Table.{table_fault};
+ghost use Rattle.service.specs.Totals.{account_of, Balanced};
 
 use crate::totals::{Account, account_of, named, raised};
 use tasks::{Outcome, ReplayAnswer, State, Table};
@@ -11,8 +11,8 @@ use tasks::{Outcome, ReplayAnswer, State, Table};
 // The masks of a valid table played from the start state, up to the first miss or refusal. Every state on the way is proper, so of a tick's refusals
 // only that of the mask is asked for.
 fn play(t: Table, masks: &[u8]) -> Account
-    requires { tableFault t ≡ 0 }
-    ensures { result ≡ accountOf t masks.now }
+    requires { table_fault t ≡ 0 }
+    ensures { result ≡ account_of t masks.now }
 {
     let mut s = State::start();
     let mut releases = [0u64; 8];
@@ -41,7 +41,7 @@ fn play(t: Table, masks: &[u8]) -> Account
 
 // The replay of a list and its totals, for any table: a bad table is refused before the first tick, with totals of 0.
 pub fn service(t: Table, masks: &[u8]) -> Account
-    ensures { (replayAnswer result.replayed ≡ replayAnswer (replayed t masks.now)) × (result.replayed.state ≡ (replayed t masks.now).state) × (result.totals ≡ (accountOf t masks.now).totals) × Balanced t result.totals × (replayTick result.replayed.answer ≤ length masks.now) }
+    ensures { (replay_answer result.replayed ≡ replay_answer (replayed t masks.now)) × (result.replayed.state ≡ (replayed t masks.now).state) × (result.totals ≡ (account_of t masks.now).totals) × Balanced t result.totals × (replay_tick result.replayed.answer ≤ length masks.now) }
 {
     let fault = t.fault();
     if 0 < fault {

@@ -2,8 +2,8 @@
 ghost use Rattle.std.specs.Prelude.{◌≡◌};
 ghost use Rattle.lists.specs.Lists.{eight};
 ghost use Rattle.tasks.specs.Tick.{bit};
-ghost use Rattle.service.specs.Totals.{accountFrom};
-ghost use Rattle.service.specs.Raised.{Room, raisedAt};
+ghost use Rattle.service.specs.Totals.{account_from};
+ghost use Rattle.service.specs.Raised.{Room, raised_at};
 
 use tasks::{ReplayAnswer, Replayed, State};
 
@@ -38,7 +38,7 @@ pub(crate) fn named(mask: u8) -> [bool; 8]
 // Each number, and one more where its task is among those given.
 pub(crate) fn raised(numbers: [u64; 8], tasks: [bool; 8]) -> [u64; 8]
     requires { Room numbers }
-    ensures { result ≡ eight (raisedAt numbers tasks) }
+    ensures { result ≡ eight (raised_at numbers tasks) }
 {
     let mut raised = [0u64; 8];
     let mut i: usize = 0;
@@ -69,7 +69,7 @@ pub(crate) fn account_of(
     releases: [u64; 8],
     ran: [u64; 8],
 ) -> Account
-    ensures { result ≡ accountFrom (record { answer = answer; state = state }) releases ran }
+    ensures { result ≡ account_from (record { answer = answer; state = state }) releases ran }
 {
     let c = state.c;
     let left = widened(c);

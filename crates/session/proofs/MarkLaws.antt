@@ -11,27 +11,27 @@ use lib.Seq.{ext_get_or, get_or-set_same, get_or-set_other}
 use borrow.Author.Tests.{ltb-true, ltb-false, eq-eqb, ne_eqb}
 use Rattle.lists.specs.Lists.{eight, pick}
 use Rattle.tasks.specs.Table.{outside}
-use Rattle.lists.proofs.Bools.{or_cases, nor-left, nor-right}
+use Rattle.lists.proofs.Bools.{or_cases, nor_left, nor_right}
 use Rattle.lists.proofs.Picks.{pick_yes, pick_no}
-use Rattle.lists.proofs.Fill.{eight-at}
+use Rattle.lists.proofs.Fill.{eight_at}
 
 -- a number of a mark
 pub within : (k : ℕ) → outside k ≡ false → (1 ≤ k) × (k ≤ 8)
-within k e = (omega (arith, ltb-false k 1 (nor-left (ltb k 1) (ltb 8 k) e)), omega (arith, ltb-false 8 k (nor-right (ltb k 1) (ltb 8 k) e)))
+within k e = (omega (arith, ltb-false k 1 (nor_left (ltb k 1) (ltb 8 k) e)), omega (arith, ltb-false 8 k (nor_right (ltb k 1) (ltb 8 k) e)))
 
 pub without : {X : Type 0} (k : ℕ) → outside k ≡ true → 1 ≤ k → k ≤ 8 → X
 without k e low high =
     absurd (or_cases (ltb k 1) (ltb 8 k) e (λ h. omega (arith, ltb-true k 1 h)) (λ _ h. omega (arith, ltb-true 8 k h)))
 
 -- what an array of structs tells of its length, for `search`
-pub length-mapped : (X Y : Type 0) (f : X → Y) (l : List X) (n : ℕ) → length (map f l) ≡ n → length l ≡ n
-length-mapped X Y f l n e = sym (length-map l f) ∙ e
+pub length_mapped : (X Y : Type 0) (f : X → Y) (l : List X) (n : ℕ) → length (map f l) ≡ n → length l ≡ n
+length_mapped X Y f l n e = sym (length-map l f) ∙ e
 
 -- within a list the value for what lies past its end is not asked for
-pub any-default : {A : Type 0} (d d' : A) (l : List A) (i : ℕ) → i < length l → get_or l i d ≡ get_or l i d'
-any-default d d' [] i h = absurd (omega arith)
-any-default d d' (x ∷ l) zero h = refl
-any-default d d' (x ∷ l) (suc i) h = any-default d d' l i (omega arith)
+pub any_default : {A : Type 0} (d d' : A) (l : List A) (i : ℕ) → i < length l → get_or l i d ≡ get_or l i d'
+any_default d d' [] i h = absurd (omega arith)
+any_default d d' (x ∷ l) zero h = refl
+any_default d d' (x ∷ l) (suc i) h = any_default d d' l i (omega arith)
 
 module _ {A : Type 0} (d v : A) (l : List A) (len : length l ≡ 8) where
   -- the list with v as the kth, counted from 1
@@ -45,10 +45,10 @@ module _ {A : Type 0} (d v : A) (l : List A) (len : length l ≡ 8) where
   stored_there k i ne = pick_no _ (ne_eqb (i + 1) k ne) refl
 
   -- a number that is no mark's stores nothing
-  pub stores-none : (k : ℕ) → outside k ≡ true → l ≡ eight (stored k)
-  stores-none k e =
+  pub stores_none : (k : ℕ) → outside k ≡ true → l ≡ eight (stored k)
+  stores_none k e =
       ext_get_or d l (eight (stored k)) len
-      (λ i h. stored_there k i (λ q. without k e (omega arith) (omega arith)) ∙ sym (eight-at d (stored k) i (omega arith)))
+      (λ i h. stored_there k i (λ q. without k e (omega arith) (omega arith)) ∙ sym (eight_at d (stored k) i (omega arith)))
 
   pub stores_one : (k : ℕ) → outside k ≡ false → set l (k - 1) v ≡ eight (stored k)
   stores_one k e =
@@ -57,8 +57,8 @@ module _ {A : Type 0} (d v : A) (l : List A) (len : length l ≡ 8) where
       ext_get_or d (set l (k - 1) v) (eight (stored k)) (same ∙ len)
       (λ i h.
       elim (ℕ_discrete (k - 1) i) [
-        | yes q ↦ rw (← q) (get_or-set_same l (k - 1) v d (omega arith) ∙ stored_here k range.0 ∙ sym (eight-at d (stored k) (k - 1) (omega arith)))
+        | yes q ↦ rw (← q) (get_or-set_same l (k - 1) v d (omega arith) ∙ stored_here k range.0 ∙ sym (eight_at d (stored k) (k - 1) (omega arith)))
         | no q ↦
             get_or-set_other l (k - 1) i v d (λ z. q (sym z)) ∙ stored_there k i (λ z. q (omega arith))
-            ∙ sym (eight-at d (stored k) i (omega (arith, same)))
+            ∙ sym (eight_at d (stored k) i (omega (arith, same)))
       ])

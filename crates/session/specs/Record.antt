@@ -6,7 +6,7 @@ use Rattle.tasks.specs.declared.state.State.{State}
 use Rattle.tasks.specs.declared.table.Table.{Table}
 use Rattle.tasks.specs.declared.play.Outcome.TheVariants.{Kept}
 use Rattle.tasks.specs.declared.play.ReplayAnswer.TheVariants.{Played}
-use Rattle.session.specs.Session.{markAt, callAnswer, called}
+use Rattle.session.specs.Session.{mark_at, call_answer, called}
 use Rattle.session.specs.declared.marks.Mark.{Mark}
 use Rattle.session.specs.declared.marks.Session.{Session}
 use Rattle.session.specs.declared.calls.SessionAnswer.{SessionAnswer}
@@ -31,35 +31,35 @@ abbrev pub blank : Record
 blank = record { list = []; stored = λ k. Nothing }
 
 -- "set stores the list under the mark"
-abbrev pub storedUnder : Record → ℕ → Record
-storedUnder h k = record { list = h.list; stored = λ j. pick (eqb j k) (Listed h.list) (h.stored j) }
+abbrev pub stored_under : Record → ℕ → Record
+stored_under h k = record { list = h.list; stored = λ j. pick (eqb j k) (Listed h.list) (h.stored j) }
 
 -- "return brings that list back"
-abbrev pub broughtBack : Record → Stored → Record
-broughtBack h Nothing = h
-broughtBack h (Listed l) = record { list = l; stored = h.stored }
+abbrev pub brought_back : Record → Stored → Record
+brought_back h Nothing = h
+brought_back h (Listed l) = record { list = l; stored = h.stored }
 
 -- the record after a call that is done: "a step accepted without a miss adds its mask"
-abbrev pub noteDone : Record → Call → Record
-noteDone h (Step mask) = record { list = h.list ++ (mask ∷ []); stored = h.stored }
-noteDone h (SetMark k) = storedUnder h k
-noteDone h (ReturnTo k) = broughtBack h (h.stored k)
+abbrev pub note_done : Record → Call → Record
+note_done h (Step mask) = record { list = h.list ++ (mask ∷ []); stored = h.stored }
+note_done h (SetMark k) = stored_under h k
+note_done h (ReturnTo k) = brought_back h (h.stored k)
 
 -- .. and by the call's answer: "a refused call alters neither record nor session", and no more does a miss
 abbrev pub noted : Record → Call → SessionAnswer → Record
-noted h c Done = noteDone h c
+noted h c Done = note_done h c
 noted h c Missed = h
 noted h c (Refused r) = h
 
 -- ---- a list of calls, one after the other, with the same table
 
-unfoldable pub sessionAfter : Table → Session → List Call → Session
-sessionAfter t x [] = x
-sessionAfter t x (c ∷ cs) = sessionAfter t (called t x c) cs
+unfoldable pub session_after : Table → Session → List Call → Session
+session_after t x [] = x
+session_after t x (c ∷ cs) = session_after t (called t x c) cs
 
-unfoldable pub recordAfter : Table → Session → Record → List Call → Record
-recordAfter t x h [] = h
-recordAfter t x h (c ∷ cs) = recordAfter t (called t x c) (noted h c (callAnswer t x c)) cs
+unfoldable pub record_after : Table → Session → Record → List Call → Record
+record_after t x h [] = h
+record_after t x h (c ∷ cs) = record_after t (called t x c) (noted h c (call_answer t x c)) cs
 
 -- ---- what the record says of the session
 
@@ -75,4 +75,4 @@ MarkOnRecord t mark (Listed l) = (mark.set ≡ true) × KeptAs t l mark.state
 -- the present state is the replay of the list on record, and each mark's that of what is stored under it
 pub record OnRecord (t : Table) (x : Session) (h : Record) : Type 0 where
   pub present : KeptAs t h.list x.present
-  pub marks : (k : ℕ) → MarkOnRecord t (markAt x k) (h.stored k)
+  pub marks : (k : ℕ) → MarkOnRecord t (mark_at x k) (h.stored k)

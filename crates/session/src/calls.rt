@@ -1,7 +1,7 @@
 // The calls on a session, for any table, session, mask and mark number. Each hands back the session after it.
 ghost use Rattle.std.specs.Prelude.{◌≡◌};
 ghost use Rattle.tasks.specs.Answers.{tick_answer};
-ghost use Rattle.session.specs.Session.{firstOf, sessionFault, beyond, neverSet, setRefusal, returnRefusal, stepTick, stepped, unlessRefused, markSet, returned, withoutState, callAnswer, called, sessionAnswer};
+ghost use Rattle.session.specs.Session.{first_of, session_fault, beyond, never_set, set_refusal, return_refusal, step_tick, stepped, unless_refused, mark_set, returned, without_state, call_answer, called, session_answer};
 
 use crate::marks::{Session, outside};
 use tasks::{Table, TickAnswer, Ticked};
@@ -37,7 +37,7 @@ pub struct Called {
 
 // The first of two refusals that applies, where 0 is none.
 fn first_of(a: u8, b: u8) -> u8
-    ensures { result ≡ firstOf a b }
+    ensures { result ≡ first_of a b }
 {
     if 0 < a { a } else { b }
 }
@@ -51,7 +51,7 @@ fn beyond(k: u8) -> u8
 
 // A refusal with the session given, or Done with the one after the call.
 fn unless_refused(why: u8, given: Session, after: Session) -> Called
-    ensures { result ≡ unlessRefused why given after }
+    ensures { result ≡ unless_refused why given after }
 {
     if 0 < why {
         return Called {
@@ -67,7 +67,7 @@ fn unless_refused(why: u8, given: Session, after: Session) -> Called
 
 // A step's answer as that of any call, without the tick's state.
 fn without_state(r: Stepped) -> Called
-    ensures { result ≡ withoutState r }
+    ensures { result ≡ without_state r }
 {
     let session = r.session;
     let ticked = r.ticked;
@@ -91,7 +91,7 @@ fn without_state(r: Stepped) -> Called
 impl Session {
     // Why every call is refused: 4 to 7, then 13.
     fn fault(self, t: Table) -> u8
-        ensures { result ≡ sessionFault t self }
+        ensures { result ≡ session_fault t self }
     {
         let fault = t.fault();
         if 0 < fault {
@@ -102,7 +102,7 @@ impl Session {
 
     // 16 where mark k was never set.
     fn never_set(self, k: u8) -> u8
-        ensures { result ≡ neverSet self k }
+        ensures { result ≡ never_set self k }
     {
         let mark = self.mark(k);
         if mark.set { 0 } else { 16 }
@@ -110,14 +110,14 @@ impl Session {
 
     // Why mark k is not set.
     fn set_refusal(self, t: Table, k: u8) -> u8
-        ensures { result ≡ setRefusal t self k }
+        ensures { result ≡ set_refusal t self k }
     {
         first_of(self.fault(t), beyond(k))
     }
 
     // Why there is no return to mark k.
     fn return_refusal(self, t: Table, k: u8) -> u8
-        ensures { result ≡ returnRefusal t self k }
+        ensures { result ≡ return_refusal t self k }
     {
         let outside = beyond(k);
         let never = self.never_set(k);
@@ -126,7 +126,7 @@ impl Session {
 
     // The tick of a step; a session that is refused is not ticked.
     fn step_tick(self, t: Table, mask: u8) -> Ticked
-        ensures { result ≡ stepTick t self mask }
+        ensures { result ≡ step_tick t self mask }
     {
         let present = self.present;
         let fault = self.fault(t);
@@ -157,7 +157,7 @@ impl Session {
 
     // Set mark k: the present state is stored under it.
     pub fn set_mark(self, t: Table, k: u8) -> Called
-        ensures { (sessionAnswer result.answer ≡ sessionAnswer (markSet t self k).answer) × (result.session ≡ (markSet t self k).session) }
+        ensures { (session_answer result.answer ≡ session_answer (mark_set t self k).answer) × (result.session ≡ (mark_set t self k).session) }
     {
         let why = self.set_refusal(t, k);
         let after = self.marked(k);
@@ -166,7 +166,7 @@ impl Session {
 
     // Return to mark k, which stays: its state is the present one.
     pub fn return_to(self, t: Table, k: u8) -> Called
-        ensures { (sessionAnswer result.answer ≡ sessionAnswer (returned t self k).answer) × (result.session ≡ (returned t self k).session) }
+        ensures { (session_answer result.answer ≡ session_answer (returned t self k).answer) × (result.session ≡ (returned t self k).session) }
     {
         let why = self.return_refusal(t, k);
         let mark = self.mark(k);
@@ -176,7 +176,7 @@ impl Session {
 
     // Any of the three calls.
     pub fn call(self, t: Table, call: Call) -> Called
-        ensures { (sessionAnswer result.answer ≡ sessionAnswer (callAnswer t self call)) × (result.session ≡ called t self call) }
+        ensures { (session_answer result.answer ≡ session_answer (call_answer t self call)) × (result.session ≡ called t self call) }
     {
         match call {
             Call::Step(mask) => without_state(self.step(t, mask)),

@@ -2,7 +2,7 @@
 ghost use Rattle.std.specs.Prelude.{◌≡◌, ◌<◌, true};
 ghost use Rattle.lists.specs.Lists.{any};
 ghost use Rattle.tasks.specs.Table.{outside};
-ghost use Rattle.session.specs.Session.{fresh, markAt, marked, moved, improperMark, improperSession};
+ghost use Rattle.session.specs.Session.{fresh, mark_at, marked, moved, improper_mark, improper_session};
 
 use tasks::{State, Table};
 
@@ -57,7 +57,7 @@ impl Session {
 
     // Mark k, and an empty one where k is outside 1 to 8.
     pub(crate) fn mark(self, k: u8) -> Mark
-        ensures { result ≡ markAt self k }
+        ensures { result ≡ mark_at self k }
     {
         if outside(k) {
             return Mark {
@@ -110,7 +110,7 @@ impl Session {
     // Whether the ith mark, counted from 0, is set and its state not proper.
     fn improper_mark(self, t: Table, i: usize) -> bool
         requires { i < 8 }
-        ensures { result ≡ improperMark t self i }
+        ensures { result ≡ improper_mark t self i }
     {
         let mark = self.marks[i];
         let state = mark.state;
@@ -119,7 +119,7 @@ impl Session {
 
     // Whether a marked state is not proper.
     fn any_improper(self, t: Table) -> bool
-        ensures { result ≡ any 8 (improperMark t self) }
+        ensures { result ≡ any 8 (improper_mark t self) }
     {
         let mut found = false;
         let mut i: usize = 0;
@@ -132,7 +132,7 @@ impl Session {
 
     // Whether the present state or a marked one is not proper.
     pub(crate) fn improper(self, t: Table) -> bool
-        ensures { result ≡ improperSession t self }
+        ensures { result ≡ improper_session t self }
     {
         let present = self.present;
         present.improper(t) | self.any_improper(t)

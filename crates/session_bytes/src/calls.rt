@@ -1,7 +1,7 @@
 // A call on a session in bytes.
 ghost use Rattle.std.specs.Prelude.{◌≡◌, ◌≤◌, length};
-ghost use Rattle.session.specs.Session.{outcome, sessionAnswer};
-ghost use Rattle.session_bytes.specs.Space.{sessionFrom, spaceAfter, sheetCall, sheetSpace};
+ghost use Rattle.session.specs.Session.{outcome, session_answer};
+ghost use Rattle.session_bytes.specs.Space.{session_from, space_after, sheet_call, sheet_space};
 
 use crate::read::read_session;
 use crate::write::write_session;
@@ -11,7 +11,7 @@ use tasks::{Reading, Table};
 // A call with a table. Only one that is done writes.
 fn call_table(t: Table, space: &mut [u8], call: Call) -> SessionAnswer
     requires { 145 ≤ length space.old }
-    ensures { (sessionAnswer result ≡ sessionAnswer (outcome t (sessionFrom space.old) call).answer) × (space.new ≡ spaceAfter (outcome t (sessionFrom space.old) call) space.old) }
+    ensures { (session_answer result ≡ session_answer (outcome t (session_from space.old) call).answer) × (space.new ≡ space_after (outcome t (session_from space.old) call) space.old) }
 {
     let called = read_session(space).call(t, call);
     let answer = called.answer;
@@ -28,7 +28,7 @@ fn call_table(t: Table, space: &mut [u8], call: Call) -> SessionAnswer
 
 // A call with a sheet's table.
 pub fn call_sheet(sheet: &[u8], space: &mut [u8], call: Call) -> SessionAnswer
-    ensures { (sessionAnswer result ≡ sessionAnswer (sheetCall sheet.now space.old call)) × (space.new ≡ sheetSpace sheet.now space.old call) }
+    ensures { (session_answer result ≡ session_answer (sheet_call sheet.now space.old call)) × (space.new ≡ sheet_space sheet.now space.old call) }
 {
     let read = tasks::read_sheet(sheet);
     let answer = read.answer;

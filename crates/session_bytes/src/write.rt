@@ -2,8 +2,8 @@
 ghost use Rattle.std.specs.Prelude.{◌≡◌, ◌<◌, ◌≤◌, length};
 ghost use Rattle.std.proofs.lemmas.List.Edits.{sets};
 ghost use Rattle.lists.specs.Lists.{pick};
-ghost use Rattle.states.specs.Bytes.{stateBytes};
-ghost use Rattle.session_bytes.specs.Space.{place, flags, markWritten, marksWritten, sessionWritten};
+ghost use Rattle.states.specs.Bytes.{state_bytes};
+ghost use Rattle.session_bytes.specs.Space.{place, flags, mark_written, marks_written, session_written};
 
 use session::Session;
 use tasks::State;
@@ -34,7 +34,7 @@ fn flags(x: Session) -> u8
 // Writes state j of the nine: 0 the present one, and 1 to 8 those of the marks.
 fn put_state(space: &mut [u8], j: usize, state: State)
     requires { (j < 9) × (145 ≤ length space.old) }
-    ensures { space.new ≡ sets space.old (place j) (stateBytes state) }
+    ensures { space.new ≡ sets space.old (place j) (state_bytes state) }
 {
     let at = 1 + 16 * j;
     slots::write_state(state, &mut space[at..]);
@@ -43,7 +43,7 @@ fn put_state(space: &mut [u8], j: usize, state: State)
 // Writes the ith mark, counted from 0, where it is set.
 fn put_mark(space: &mut [u8], x: Session, i: usize)
     requires { (i < 8) × (145 ≤ length space.old) }
-    ensures { space.new ≡ markWritten x i space.old }
+    ensures { space.new ≡ mark_written x i space.old }
 {
     let mark = x.marks[i];
     let state = mark.state;
@@ -56,7 +56,7 @@ fn put_mark(space: &mut [u8], x: Session, i: usize)
 // Writes the marks that are set.
 fn put_marks(space: &mut [u8], x: Session)
     requires { 145 ≤ length space.old }
-    ensures { space.new ≡ marksWritten x 8 space.old }
+    ensures { space.new ≡ marks_written x 8 space.old }
 {
     let mut i: usize = 0;
     while i < 8 {
@@ -68,7 +68,7 @@ fn put_marks(space: &mut [u8], x: Session)
 // Writes the flags, the present state and the marks.
 pub(crate) fn write_session(space: &mut [u8], x: Session)
     requires { 145 ≤ length space.old }
-    ensures { space.new ≡ sessionWritten x space.old }
+    ensures { space.new ≡ session_written x space.old }
 {
     let present = x.present;
     space[0] = flags(x);

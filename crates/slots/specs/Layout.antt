@@ -3,7 +3,7 @@
 use Rattle.std.specs.Prelude.{◌≡◌, List, [], ◌∷◌, ◌++◌, ℕ, zero, suc, ◌+◌, ◌*◌, ◌/◌, ◌%◌, ◌<◌, ◌≤◌, get_or, replicate}
 use Rattle.std.proofs.lemmas.List.Edits.{sets}
 use Rattle.tasks.specs.declared.state.State.{State}
-use Rattle.states.specs.Bytes.{fourAt, stateFrom, stateBytes}
+use Rattle.states.specs.Bytes.{four_at, state_from, state_bytes}
 
 -- what a slot holds
 pub record Slot : Type 0 where
@@ -65,19 +65,19 @@ FitsIn l K n = (i : ℕ) (c : Part) → i < K → begin l c i + size l c ≤ n
 -- ---- reading
 
 -- "16 state bytes (c, p of task 1, then task 2 and so on)"
-unfoldable pub stateAt : Layout → List ℕ → ℕ → State
-stateAt l w i = stateFrom w (l.state i)
+unfoldable pub state_at : Layout → List ℕ → ℕ → State
+state_at l w i = state_from w (l.state i)
 
 -- "the parent slot in 4 bytes low byte first"
-unfoldable pub parentAt : Layout → List ℕ → ℕ → ℕ
-parentAt l w i = fourAt w (l.parent i)
+unfoldable pub parent_at : Layout → List ℕ → ℕ → ℕ
+parent_at l w i = four_at w (l.parent i)
 
 -- "the mask"
-unfoldable pub maskAt : Layout → List ℕ → ℕ → ℕ
-maskAt l w i = get_or w (l.mask i) 0
+unfoldable pub mask_at : Layout → List ℕ → ℕ → ℕ
+mask_at l w i = get_or w (l.mask i) 0
 
 abbrev pub slot_at : Layout → List ℕ → ℕ → Slot
-slot_at l w i = slot (stateAt l w i) (parentAt l w i) (maskAt l w i)
+slot_at l w i = slot (state_at l w i) (parent_at l w i) (mask_at l w i)
 
 -- the first n slots, in their order
 abbrev pub read_slots : Layout → List ℕ → ℕ → List Slot
@@ -91,29 +91,29 @@ Zeros l w i = (z : ℕ) → z < l.zeros → get_or w (l.mask i + 1 + z) 0 ≡ 0
 -- ---- writing
 
 -- a number in four bytes, low byte first
-unfoldable pub fourBytes : ℕ → List ℕ
-fourBytes x = x % 256 ∷ x / 256 % 256 ∷ x / 65536 % 256 ∷ x / 16777216 % 256 ∷ []
+unfoldable pub four_bytes : ℕ → List ℕ
+four_bytes x = x % 256 ∷ x / 256 % 256 ∷ x / 65536 % 256 ∷ x / 16777216 % 256 ∷ []
 
 -- the bytes of a slot's part
-abbrev pub partBytes : Layout → Slot → Part → List ℕ
-partBytes l x OfState = stateBytes x.state
-partBytes l x OfParent = fourBytes x.parent
-partBytes l x OfMask = x.mask ∷ replicate l.zeros 0
+abbrev pub part_bytes : Layout → Slot → Part → List ℕ
+part_bytes l x OfState = state_bytes x.state
+part_bytes l x OfParent = four_bytes x.parent
+part_bytes l x OfMask = x.mask ∷ replicate l.zeros 0
 
 -- w with slot i written
-unfoldable pub writePart : Layout → List ℕ → ℕ → Slot → Part → List ℕ
-writePart l w i x c = sets w (begin l c i) (partBytes l x c)
+unfoldable pub write_part : Layout → List ℕ → ℕ → Slot → Part → List ℕ
+write_part l w i x c = sets w (begin l c i) (part_bytes l x c)
 
-abbrev pub writeSlot : Layout → List ℕ → ℕ → Slot → List ℕ
-writeSlot l w i x = writePart l (writePart l (writePart l w i x OfState) i x OfParent) i x OfMask
+abbrev pub write_slot : Layout → List ℕ → ℕ → Slot → List ℕ
+write_slot l w i x = write_part l (write_part l (write_part l w i x OfState) i x OfParent) i x OfMask
 
 -- w with these slots written from slot i on
-abbrev pub writeFrom : Layout → List ℕ → ℕ → List Slot → List ℕ
-writeFrom l w i [] = w
-writeFrom l w i (x ∷ xs) = writeFrom l (writeSlot l w i x) (suc i) xs
+abbrev pub write_from : Layout → List ℕ → ℕ → List Slot → List ℕ
+write_from l w i [] = w
+write_from l w i (x ∷ xs) = write_from l (write_slot l w i x) (suc i) xs
 
-abbrev pub writeSlots : Layout → List ℕ → List Slot → List ℕ
-writeSlots l w xs = writeFrom l w 0 xs
+abbrev pub write_slots : Layout → List ℕ → List Slot → List ℕ
+write_slots l w xs = write_from l w 0 xs
 
 -- ---- the bytes that stay
 

@@ -4,12 +4,12 @@
 -- columns.
 use Rattle.std.specs.Prelude.{◌≡◌, List, [], ◌∷◌, ℕ, suc, ◌+◌, ◌*◌, ◌/◌, ◌%◌, ◌≤◌, ◌<◌, eqb, ltb, length, get_or, set}
 use Rattle.lists.specs.Lists.{pick}
-use Rattle.states.specs.Bytes.{stateIn}
-use Rattle.slots.specs.Layout.{columns, stateAt, parentAt, maskAt, Stays}
+use Rattle.states.specs.Bytes.{state_in}
+use Rattle.slots.specs.Layout.{columns, state_at, parent_at, mask_at, Stays}
 
 -- the word of slot i, and the link in it
 abbrev pub word_at : ℕ → List ℕ → ℕ → ℕ
-word_at K w i = parentAt (columns K) w i
+word_at K w i = parent_at (columns K) w i
 
 unfoldable pub link_at : ℕ → List ℕ → ℕ → ℕ
 link_at K w i = word_at K w i % 1048576
@@ -33,8 +33,8 @@ unfoldable pub parent_in : ℕ → List ℕ → List ℕ → ℕ → ℕ
 parent_in K ends w i = 4096 * block_of ends i + word_at K w i / 1048576
 
 -- the ends once slot i has been tried, with n slots filled
-unfoldable pub endsAfter : List ℕ → ℕ → ℕ → List ℕ
-endsAfter ends i n = pick (eqb (i % 4096) 4095) (set ends (i / 4096) n) ends
+unfoldable pub ends_after : List ℕ → ℕ → ℕ → List ℕ
+ends_after ends i n = pick (eqb (i % 4096) 4095) (set ends (i / 4096) n) ends
 
 -- the slots before slot i have been tried, and n are filled
 pub record Marked (ends : List ℕ) (i n : ℕ) : Type 0 where
@@ -47,10 +47,10 @@ pub record Marked (ends : List ℕ) (i n : ℕ) : Type 0 where
 -- the first i slots have their parents, and those after them their words
 pub record Settling (K : ℕ) (ends w w' : List ℕ) (i : ℕ) : Type 0 where
   pub len : length w' ≡ length w
-  pub done : (j : ℕ) → j < i → parentAt (columns K) w' j ≡ parent_in K ends w j
+  pub done : (j : ℕ) → j < i → parent_at (columns K) w' j ≡ parent_in K ends w j
   pub left : (j : ℕ) → i ≤ j → j < K → word_at K w' j ≡ word_at K w j
-  pub states : (j : ℕ) → j < K → stateAt (columns K) w' j ≡ stateAt (columns K) w j
-  pub masks : (j : ℕ) → j < K → maskAt (columns K) w' j ≡ maskAt (columns K) w j
+  pub states : (j : ℕ) → j < K → state_at (columns K) w' j ≡ state_at (columns K) w j
+  pub masks : (j : ℕ) → j < K → mask_at (columns K) w' j ≡ mask_at (columns K) w j
   pub rest : Stays (columns K) i w w'
 
 -- the slots from `from` to `to` - 1, where all are of block b: r slots have their parents now, whatever the pass began with
@@ -65,7 +65,7 @@ pub record BlockSettled (K b from to : ℕ) (w w' : List ℕ) (r : ℕ) : Type 0
 -- w' is w with the first n slots as the paper has them
 pub record Settled (K : ℕ) (ends w w' : List ℕ) (n : ℕ) : Type 0 where
   pub len : length w' ≡ length w
-  pub states : (j : ℕ) → j < n → stateAt (columns K) w' j ≡ stateIn w j
-  pub parents : (j : ℕ) → j < n → parentAt (columns K) w' j ≡ parent_in K ends w j
-  pub masks : (j : ℕ) → j < n → maskAt (columns K) w' j ≡ maskAt (columns K) w j
+  pub states : (j : ℕ) → j < n → state_at (columns K) w' j ≡ state_in w j
+  pub parents : (j : ℕ) → j < n → parent_at (columns K) w' j ≡ parent_in K ends w j
+  pub masks : (j : ℕ) → j < n → mask_at (columns K) w' j ≡ mask_at (columns K) w j
   pub rest : Stays (columns K) n w w'

@@ -1,8 +1,8 @@
 // The words that stand for parents while a search runs, and the last pass, which leaves the parents.
 ghost use Rattle.std.specs.Prelude.{◌≡◌, ◌+◌, ◌*◌, ◌/◌, ◌<◌, ◌≤◌, length, get_or};
 ghost use Rattle.std.proofs.lemmas.List.Edits.{sets};
-ghost use Rattle.slots.specs.Layout.{fourBytes};
-ghost use Rattle.slots.specs.Running.{word_at, word_of, endsAfter, BlockSettled, Settled};
+ghost use Rattle.slots.specs.Layout.{four_bytes};
+ghost use Rattle.slots.specs.Running.{word_at, word_of, ends_after, BlockSettled, Settled};
 
 use crate::read::parent_of;
 use crate::write::put_parent;
@@ -27,7 +27,7 @@ pub fn block_upto(i: usize, hi: usize) -> usize
 // Slot i has been tried, and n slots are filled: where it is the last of its block, that is the block's end.
 pub fn end_slot(ends: &mut [u32], i: usize, n: usize)
     requires { (i < 4096 * length ends.old) × (n ≤ 1000000) }
-    ensures { ends.new ≡ endsAfter ends.old i n }
+    ensures { ends.new ≡ ends_after ends.old i n }
 {
     if i % 4096 == 4095 {
         let b = i / 4096;
@@ -38,7 +38,7 @@ pub fn end_slot(ends: &mut [u32], i: usize, n: usize)
 // Writes the parent of slot i, which is of block b, in the place of its word.
 fn settle_slot(work: &mut [u8], k: usize, b: usize, i: usize)
     requires { (i < k) × (21 * k ≤ length work.old) × (b < 245) }
-    ensures { work.new ≡ sets work.old (16 * k + 4 * i) (fourBytes (4096 * b + word_at k work.old i / 1048576)) }
+    ensures { work.new ≡ sets work.old (16 * k + 4 * i) (four_bytes (4096 * b + word_at k work.old i / 1048576)) }
 {
     let at = 16 * k + 4 * i;
     let parent = 4096 * (b as u32) + parent_of(work, k, i) / 1048576;

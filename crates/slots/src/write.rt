@@ -1,18 +1,18 @@
 // The writers of a slot, one for each column: each is lent the part of the work space that starts at the slot's place in its column.
 ghost use Rattle.std.specs.Prelude.{◌≡◌, [], ◌∷◌, ◌*◌, ◌<◌, ◌≤◌, length};
 ghost use Rattle.std.proofs.lemmas.List.Edits.{sets};
-ghost use Rattle.tasks.specs.Answers.{writingAnswer};
+ghost use Rattle.tasks.specs.Answers.{writing_answer};
 ghost use Rattle.tasks.specs.Words.{state_of};
-ghost use Rattle.states.specs.Bytes.{stateBytes};
-ghost use Rattle.slots.specs.Layout.{slot, columns, fourBytes, writeSlot};
-ghost use Rattle.slots.specs.StateSpace.{stateWriting, stateSpace};
+ghost use Rattle.states.specs.Bytes.{state_bytes};
+ghost use Rattle.slots.specs.Layout.{slot, columns, four_bytes, write_slot};
+ghost use Rattle.slots.specs.StateSpace.{state_writing, state_space};
 
 use tasks::{State, Writing, gap_in, work_in};
 
 // Writes the sixteen bytes of a state in words.
 fn put_state(part: &mut [u8], v: [u16; 8])
     requires { 16 ≤ length part.old }
-    ensures { part.new ≡ sets part.old 0 (stateBytes (state_of v)) }
+    ensures { part.new ≡ sets part.old 0 (state_bytes (state_of v)) }
 {
     let mut k: usize = 0;
     while k < 8 {
@@ -25,7 +25,7 @@ fn put_state(part: &mut [u8], v: [u16; 8])
 // Writes the four bytes of a parent, or of the word in its place.
 pub(crate) fn put_parent(part: &mut [u8], x: u32)
     requires { 4 ≤ length part.old }
-    ensures { part.new ≡ sets part.old 0 (fourBytes x) }
+    ensures { part.new ≡ sets part.old 0 (four_bytes x) }
 {
     part[0] = (x % 256) as u8;
     part[1] = (x / 256 % 256) as u8;
@@ -44,7 +44,7 @@ fn put_mask(part: &mut [u8], mask: u8)
 // Writes slot i of k.
 pub fn put_slot(work: &mut [u8], k: usize, i: usize, v: [u16; 8], parent: u32, mask: u8)
     requires { (i < k) × (21 * k ≤ length work.old) }
-    ensures { work.new ≡ writeSlot (columns k) work.old i (slot (state_of v) parent mask) }
+    ensures { work.new ≡ write_slot (columns k) work.old i (slot (state_of v) parent mask) }
 {
     let first = 16 * i;
     put_state(&mut work[first..], v);
@@ -56,7 +56,7 @@ pub fn put_slot(work: &mut [u8], k: usize, i: usize, v: [u16; 8], parent: u32, m
 
 // Writes the sixteen bytes of a state at the front of the space, where it is long enough.
 pub fn write_state(s: State, out: &mut [u8]) -> Writing
-    ensures { (writingAnswer result ≡ writingAnswer (stateWriting out.old)) × (out.new ≡ stateSpace s out.old) }
+    ensures { (writing_answer result ≡ writing_answer (state_writing out.old)) × (out.new ≡ state_space s out.old) }
 {
     if out.len() < 16 {
         return Writing::Refused(12);

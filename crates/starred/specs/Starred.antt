@@ -3,9 +3,9 @@ use Rattle.std.specs.Prelude.{ℕ, List, [], ◌∷◌, map, length, take, get_o
 use Rattle.lists.specs.Lists.{eight}
 use Rattle.tasks.specs.Number.{number_at}
 use Rattle.tasks.specs.Replay.{replayed}
-use Rattle.tasks.specs.Answers.{numberAnswer, replayAnswer}
+use Rattle.tasks.specs.Answers.{number_answer, replay_answer}
 use Rattle.tasks.specs.declared.table.Table.{Table}
-use Rattle.search.specs.Computed.{verdictOf, computedAnswer}
+use Rattle.search.specs.Computed.{verdict_of, computed_answer}
 
 -- (C, D, P) of a task
 pub record Task : Type 0 where
@@ -31,7 +31,7 @@ table policy m tasks =
 -- what an example asks
 pub data Question : Type 0 where
   -- the sheet number at the front of these bytes
-  sheetNumber : List ℕ → Question
+  sheet_number : List ℕ → Question
   -- the replay of these masks: its kind, and the tick of the miss
   replay : Table → List ℕ → Question
   -- the verdict with K slots: kind, L, N, and under Unsafe the masks
@@ -39,9 +39,9 @@ pub data Question : Type 0 where
 
 -- what the definitions answer, by the paper's number and values
 abbrev pub answer : Question → List ℕ
-answer (sheetNumber bytes) = numberAnswer (number_at bytes 0)
-answer (replay t masks) = take 2 (replayAnswer (replayed t masks))
-answer (verdict t K) = computedAnswer (verdictOf t K)
+answer (sheet_number bytes) = number_answer (number_at bytes 0)
+answer (replay t masks) = take 2 (replay_answer (replayed t masks))
+answer (verdict t K) = computed_answer (verdict_of t K)
 
 -- a question with the paper's answer
 pub record Example : Type 0 where
@@ -65,11 +65,11 @@ starred =
     -- 1/1: (1,1,2),(1,1,2): Unsafe 1 1, mask 3, with K = 1
     ∷ record { asks = verdict (table 1 1 (task 1 1 2 ∷ task 1 1 2 ∷ [])) 1; says = 2 ∷ 1 ∷ 1 ∷ 3 ∷ [] }
     -- C8 01 is 200
-    ∷ record { asks = sheetNumber (0xC8 ∷ 0x01 ∷ []); says = 1 ∷ 200 ∷ 2 ∷ [] }
+    ∷ record { asks = sheet_number (0xC8 ∷ 0x01 ∷ []); says = 1 ∷ 200 ∷ 2 ∷ [] }
     -- 80 00 gives 2
-    ∷ record { asks = sheetNumber (0x80 ∷ 0x00 ∷ []); says = 0 ∷ 2 ∷ [] }
+    ∷ record { asks = sheet_number (0x80 ∷ 0x00 ∷ []); says = 0 ∷ 2 ∷ [] }
     -- 80 and the end gives 1
-    ∷ record { asks = sheetNumber (0x80 ∷ []); says = 0 ∷ 1 ∷ [] }
+    ∷ record { asks = sheet_number (0x80 ∷ []); says = 0 ∷ 1 ∷ [] }
     ∷ []
 
 -- ---- least slack first (document 02, §3)
@@ -78,8 +78,8 @@ starred =
 abbrev pub crowded : ℕ → Table
 crowded policy = table policy 2 (task 1 2 2 ∷ task 1 1 2 ∷ task 2 2 2 ∷ [])
 
-abbrev pub leastSlack : List Example
-leastSlack =
+abbrev pub least_slack : List Example
+least_slack =
     -- 3/2: (1,2,2),(1,1,2),(2,2,2): Unsafe 1 1, mask 7
     record { asks = verdict (crowded 3) 1; says = 2 ∷ 1 ∷ 1 ∷ 7 ∷ [] }
     -- 4/2, the same: Safe 9
@@ -93,8 +93,8 @@ leastSlack =
 -- ---- equal deadlines told apart by age (document 02, §4)
 
 -- what the order by task number alone answers otherwise: the first Safe 22, the second Unsafe 3 13
-abbrev pub byAge : List Example
-byAge =
+abbrev pub by_age : List Example
+by_age =
     -- 3/2: (1,2,2),(2,2,2),(2,4,4): Unsafe 3 15, masks 7, 0, 3
     record { asks = verdict (table 3 2 (task 1 2 2 ∷ task 2 2 2 ∷ task 2 4 4 ∷ [])) 15; says = 2 ∷ 3 ∷ 15 ∷ 7 ∷ 0 ∷ 3 ∷ [] }
     -- 3/2: (1,2,2),(1,2,2),(3,4,4): Safe 22

@@ -4,27 +4,27 @@ use mathlib.Core.Logic.◌⊎◌.{inl, inr}
 use native.Mathlib.Decide.{ℕ_discrete, dec_lt}
 use Rattle.lists.specs.Lists.{pick}
 use Rattle.tasks.specs.Tick.{bit, illegal}
-use Rattle.tasks.specs.Masks.{freeMask}
+use Rattle.tasks.specs.Masks.{free_mask}
 use Rattle.tasks.specs.declared.state.State.{State}
 use Rattle.tasks.specs.declared.table.Table.{Table}
 use Rattle.lists.proofs.Bools.{clash, and_left, and_right, both}
-use Rattle.tasks.proofs.Legal.{legal-bit, bits-legal}
-use Rattle.tasks.proofs.Free.{free-bit, may, may-be}
-use Rattle.states.specs.Masks.{nextMask, follows}
+use Rattle.tasks.proofs.Legal.{legal_bit, bits_legal}
+use Rattle.tasks.proofs.Free.{free_bit, may, may_be}
+use Rattle.states.specs.Masks.{next_mask, follows}
 use Rattle.states.proofs.MaskTest.{all, submask, same, checks, every}
 
-same-is : (a b : Bool) → same a b ≡ true → a ≡ b
-same-is true b e = sym e
-same-is false true e = e
-same-is false false e = refl
+same_is : (a b : Bool) → same a b ≡ true → a ≡ b
+same_is true b e = sym e
+same_is false true e = e
+same_is false false e = refl
 
-pub all-at : (n : ℕ) (p : ℕ → Bool) → all n p ≡ true → (i : ℕ) → i < n → p i ≡ true
+pub all_at : (n : ℕ) (p : ℕ → Bool) → all n p ≡ true → (i : ℕ) → i < n → p i ≡ true
 unfolding all
-all-at zero p e i h = absurd (omega arith)
-all-at (suc n) p e i h =
+all_at zero p e i h = absurd (omega arith)
+all_at (suc n) p e i h =
     elim (ℕ_discrete i n) [
       | yes q ↦ ap p q ∙ and_left (p n) (all n p) e
-      | no q ↦ all-at n p (and_right (p n) (all n p) e) i (omega arith)
+      | no q ↦ all_at n p (and_right (p n) (all n p) e) i (omega arith)
     ]
 
 all_of : (n : ℕ) (p : ℕ → Bool) → ((i : ℕ) → i < n → p i ≡ true) → all n p ≡ true
@@ -41,15 +41,15 @@ pub record First (free a b : ℕ) : Type 0 where
 
 module _ (free : ℕ) where
   -- the test at x says that the number due is the first submask from x on
-  test-first : (k x due : ℕ) → x + k ≡ 256 → checks k free x due ≡ true → First free x due
+  test_first : (k x due : ℕ) → x + k ≡ 256 → checks k free x due ≡ true → First free x due
   unfolding checks
-  test-first zero x due e h =
+  test_first zero x due e h =
       let q : due ≡ 256 = eqb-true due 256 h in
       record { up = omega arith; most = omega arith; gap = λ y l m. absurd (omega arith); is = λ b. absurd (omega arith) }
-  test-first (suc k) x due e h =
+  test_first (suc k) x due e h =
       let rest = checks k free (suc x) (pick (eqb x due) (follows free x) due) in
       let here : submask free x ≡ eqb x due =
-      same-is (submask free x) (eqb x due) (and_left (same (submask free x) (eqb x due)) rest h) in
+      same_is (submask free x) (eqb x due) (and_left (same (submask free x) (eqb x due)) rest h) in
       elim (ℕ_discrete x due) [
         | yes q ↦
             record {
@@ -61,7 +61,7 @@ module _ (free : ℕ) where
         | no q ↦
             let off : eqb x due ≡ false = ne_eqb x due q in
             let f : First free (suc x) due =
-            test-first k (suc x) due (omega arith) (rw off at (and_right (same (submask free x) (eqb x due)) rest h)) in
+            test_first k (suc x) due (omega arith) (rw off at (and_right (same (submask free x) (eqb x due)) rest h)) in
             record {
               up = omega (arith, f.up);
               most = f.most;
@@ -79,21 +79,21 @@ module _ (free : ℕ) where
   test-next (suc k) x due e h m l b s =
       let rest = checks k free (suc x) (pick (eqb x due) (follows free x) due) in
       let here : submask free x ≡ eqb x due =
-      same-is (submask free x) (eqb x due) (and_left (same (submask free x) (eqb x due)) rest h) in
+      same_is (submask free x) (eqb x due) (and_left (same (submask free x) (eqb x due)) rest h) in
       let more : rest ≡ true = and_right (same (submask free x) (eqb x due)) rest h in
       elim (ℕ_discrete x m) [
         | yes q ↦
             let on : eqb x due ≡ true = sym here ∙ ap (submask free) q ∙ s in
-            rw (sym q) (test-first k (suc x) (follows free x) (omega arith) (rw on at more))
+            rw (sym q) (test_first k (suc x) (follows free x) (omega arith) (rw on at more))
         | no q ↦ test-next k (suc x) (pick (eqb x due) (follows free x) due) (omega arith) more m (omega arith) b s
       ]
 
 -- after a submask m, `follows free m` is the next one; 0 is the first
-pub next-submask : (free m : ℕ) → free < 256 → m < 256 → submask free m ≡ true → First free (suc m) (follows free m)
-next-submask free m f b s = test-next free 256 0 0 refl (all-at 256 (λ x. checks 256 x 0 0) every free f) m (omega arith) b s
+pub next_submask : (free m : ℕ) → free < 256 → m < 256 → submask free m ≡ true → First free (suc m) (follows free m)
+next_submask free m f b s = test-next free 256 0 0 refl (all_at 256 (λ x. checks 256 x 0 0) every free f) m (omega arith) b s
 
 pub no_bits : (free : ℕ) → free < 256 → submask free 0 ≡ true
-no_bits free f = (test-first free 256 0 0 refl (all-at 256 (λ x. checks 256 x 0 0) every free f)).is (omega arith)
+no_bits free f = (test_first free 256 0 0 refl (all_at 256 (λ x. checks 256 x 0 0) every free f)).is (omega arith)
 
 -- a submask before the one that follows m is before m, or m
 pub passed : {free m : ℕ} → free < 256 → m < 256 → submask free m ≡ true → (q : ℕ) → q < follows free m → submask free q ≡ true → (q < m) ⊎ (q ≡ m)
@@ -102,7 +102,7 @@ passed {free} {m} f b s q h e = go (dec_lt q m) (ℕ_discrete q m)
     go : Dec (q < m) → Dec (q ≡ m) → (q < m) ⊎ (q ≡ m)
     go (yes l) d = inl l
     go (no l) (yes z) = inr z
-    go (no l) (no z) = clash e ((next-submask free m f b s).gap q (omega arith) h)
+    go (no l) (no z) = clash e ((next_submask free m f b s).gap q (omega arith) h)
 
 -- ---- a walk through the submasks in increasing order
 
@@ -118,7 +118,7 @@ module _ (Q : ℕ → Type 0) {free : ℕ} (small : free < 256) where
 
   pub walked_next : {m : ℕ} → Walked Q free m → m < 256 → Q m → Walked Q free (follows free m)
   walked_next {m} x h e =
-      let f = next-submask free m small h (x.is h) in
+      let f = next_submask free m small h (x.is h) in
       record {
         most = f.most;
         is = f.is;
@@ -129,43 +129,43 @@ module _ (Q : ℕ → Type 0) {free : ℕ} (small : free < 256) where
       go q k (inl l) = x.each q l k
       go q k (inr z) = rw z e
 
-  pub walked-falls : {m : ℕ} → Walked Q free m → m < 256 → m < follows free m
-  walked-falls {m} x h = let f = next-submask free m small h (x.is h) in omega (arith, f.up)
+  pub walked_falls : {m : ℕ} → Walked Q free m → m < 256 → m < follows free m
+  walked_falls {m} x h = let f = next_submask free m small h (x.is h) in omega (arith, f.up)
 
 -- a difference that wraps
 pub wrapped : (r f m : ℕ) → r < 256 → f < 256 → m < 256 → (r + f) % 256 ≡ m → r ≡ (m + (256 - f)) % 256
 wrapped r f m a b c e = omega arith
 
 -- the two cases of `follows`
-pub follows-end : (free m : ℕ) → nextMask free m ≡ 0 → 256 ≡ follows free m
+pub follows_end : (free m : ℕ) → next_mask free m ≡ 0 → 256 ≡ follows free m
 unfolding follows
-follows-end free m e = rw (eq-eqb (nextMask free m) 0 e)
+follows_end free m e = rw (eq-eqb (next_mask free m) 0 e)
 
-pub follows_on : (free m : ℕ) {r : ℕ} → r ≡ nextMask free m → (r ≡ 0 → ⊥) → r ≡ follows free m
+pub follows_on : (free m : ℕ) {r : ℕ} → r ≡ next_mask free m → (r ≡ 0 → ⊥) → r ≡ follows free m
 unfolding follows
 follows_on free m {r} e h = rw (← e, ne_eqb r 0 h)
 
 -- ---- the submasks of the releasable tasks are the legal masks
 
-or-not : (a b : Bool) → (a ≡ true → b ≡ true) → not a || b ≡ true
-or-not true b f = f refl
-or-not false b f = refl
+or_not : (a b : Bool) → (a ≡ true → b ≡ true) → not a || b ≡ true
+or_not true b f = f refl
+or_not false b f = refl
 
-not-or : (a b : Bool) → not a || b ≡ true → a ≡ true → b ≡ true
-not-or true b e h = e
-not-or false b e h = clash h refl
+not_or : (a b : Bool) → not a || b ≡ true → a ≡ true → b ≡ true
+not_or true b e h = e
+not_or false b e h = clash h refl
 
 module _ (t : Table) (s : State) where
   -- LAW: a submask of the releasable tasks' mask is legal
-  pub submask-legal : (m : ℕ) → submask (freeMask t s) m ≡ true → illegal t s m ≡ false
+  pub submask_legal : (m : ℕ) → submask (free_mask t s) m ≡ true → illegal t s m ≡ false
   unfolding submask
-  submask-legal m e =
-      bits-legal t s m
-      (λ i h b. may-be t s i (sym (free-bit t s i h) ∙ not-or (bit m i) (bit (freeMask t s) i) (all-at 8 (λ i. not (bit m i) || bit (freeMask t s) i) e i h) b))
+  submask_legal m e =
+      bits_legal t s m
+      (λ i h b. may_be t s i (sym (free_bit t s i h) ∙ not_or (bit m i) (bit (free_mask t s) i) (all_at 8 (λ i. not (bit m i) || bit (free_mask t s) i) e i h) b))
 
   -- LAW: and a legal mask is one
-  pub legal-submask : (m : ℕ) → illegal t s m ≡ false → submask (freeMask t s) m ≡ true
+  pub legal_submask : (m : ℕ) → illegal t s m ≡ false → submask (free_mask t s) m ≡ true
   unfolding submask
-  legal-submask m e =
-      all_of 8 (λ i. not (bit m i) || bit (freeMask t s) i)
-      (λ i h. or-not (bit m i) (bit (freeMask t s) i) (λ b. free-bit t s i h ∙ may t s i (legal-bit t s m i h e b)))
+  legal_submask m e =
+      all_of 8 (λ i. not (bit m i) || bit (free_mask t s) i)
+      (λ i h. or_not (bit m i) (bit (free_mask t s) i) (λ b. free_bit t s i h ∙ may t s i (legal_bit t s m i h e b)))

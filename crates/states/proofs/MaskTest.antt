@@ -2,7 +2,7 @@
 use Rattle.std.proofs.Common.{◌≡◌, ℕ, zero, suc, Bool, true, false, not, ◌&&◌, ◌||◌, eqb, refl}
 use Rattle.lists.specs.Lists.{pick}
 use Rattle.tasks.specs.Tick.{bit}
-use Rattle.states.specs.Masks.{nextMask, follows}
+use Rattle.states.specs.Masks.{next_mask, follows}
 
 -- whether every number below n passes the test
 unfoldable pub all : ℕ → (ℕ → Bool) → Bool
@@ -24,5 +24,5 @@ checks (suc k) free x due =
     same (submask free x) (eqb x due) && checks k free (suc x) (pick (eqb x due) (follows free x) due)
 
 pub every : all 256 (λ free. checks 256 free 0 0) ≡ true
-unfolding all submask nextMask follows checks
+unfolding all submask next_mask follows checks
 every = refl

@@ -8,16 +8,16 @@ abbrev pub four : ℕ → ℕ → ℕ → ℕ → ℕ
 four x y z u = x + 256 * y + 65536 * z + 16777216 * u
 
 -- the number in the four bytes from a on
-unfoldable pub fourAt : List ℕ → ℕ → ℕ
-fourAt w a = four (slice_index w a) (slice_index w (a + 1)) (slice_index w (a + 2)) (slice_index w (a + 3))
+unfoldable pub four_at : List ℕ → ℕ → ℕ
+four_at w a = four (slice_index w a) (slice_index w (a + 1)) (slice_index w (a + 2)) (slice_index w (a + 3))
 
 -- the state in the bytes from a on: "16 state bytes (c, p of task 1, then task 2 and so on)"
-abbrev pub stateFrom : List ℕ → ℕ → State
-stateFrom w a = record { c = eight (λ k. slice_index w (a + 2 * k)); p = eight (λ k. slice_index w (a + 2 * k + 1)) }
+abbrev pub state_from : List ℕ → ℕ → State
+state_from w a = record { c = eight (λ k. slice_index w (a + 2 * k)); p = eight (λ k. slice_index w (a + 2 * k + 1)) }
 
 -- state i of those that stand one after the other from the front on: of a file (document 02, §1), and of a work space, whose first column has the states (§6)
-unfoldable pub stateIn : List ℕ → ℕ → State
-stateIn w i = stateFrom w (16 * i)
+unfoldable pub state_in : List ℕ → ℕ → State
+state_in w i = state_from w (16 * i)
 
 -- f 0, g 0, f 1, g 1, .. : k of each
 abbrev pub twos : ℕ → (ℕ → ℕ) → (ℕ → ℕ) → List ℕ
@@ -25,5 +25,5 @@ twos zero f g = []
 twos (suc k) f g = f 0 ∷ g 0 ∷ twos k (λ j. f (suc j)) (λ j. g (suc j))
 
 -- the bytes of a state
-unfoldable pub stateBytes : State → List ℕ
-stateBytes s = twos 8 (λ k. slice_index s.c k) (λ k. slice_index s.p k)
+unfoldable pub state_bytes : State → List ℕ
+state_bytes s = twos 8 (λ k. slice_index s.c k) (λ k. slice_index s.p k)

@@ -3,14 +3,14 @@ use Rattle.std.specs.Prelude.{ℕ, Bool, ◌&&◌, List}
 use Rattle.tasks.specs.Tick.{missed}
 use Rattle.tasks.specs.Tight.{tight}
 use Rattle.tasks.specs.Words.{state_of}
-use Rattle.tasks.specs.Ticker.{preparedBy, tickedBy, freeBy}
+use Rattle.tasks.specs.Ticker.{prepared_by, ticked_by, free_by}
 use Rattle.tasks.specs.declared.table.Table.{Table}
 use Rattle.tasks.specs.declared.ticker.Ticker.{Ticker}
 
 -- the mask of all tasks that may be released misses
-unfoldable pub fullBy : Table → Ticker → List ℕ → Bool
-fullBy t ticker v = missed t (state_of (tickedBy ticker (preparedBy ticker v) (freeBy ticker v)))
+unfoldable pub full_by : Table → Ticker → List ℕ → Bool
+full_by t ticker v = missed t (state_of (ticked_by ticker (prepared_by ticker v) (free_by ticker v)))
 
 -- .. and some job is tight; proofs/MissLaws.antt: from a proper state, exactly where some mask misses
-abbrev pub missBy : Table → Ticker → List ℕ → Bool
-missBy t ticker v = tight t (state_of v) && fullBy t ticker v
+abbrev pub miss_by : Table → Ticker → List ℕ → Bool
+miss_by t ticker v = tight t (state_of v) && full_by t ticker v

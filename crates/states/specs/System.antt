@@ -11,14 +11,14 @@ use Rattle.levels.specs.Verdict.{System, Tick}
 use Rattle.levels.specs.Verdict.Tick.{Next, Missed, Refused}
 
 -- the answer of a tick with its state
-abbrev pub tickOf : TickAnswer → State → Tick State
-tickOf Answer.Next s = Next s
-tickOf Answer.Missed s = Missed s
-tickOf (Answer.Refused r) s = Refused
+abbrev pub tick_of : TickAnswer → State → Tick State
+tick_of Answer.Next s = Next s
+tick_of Answer.Missed s = Missed s
+tick_of (Answer.Refused r) s = Refused
 
 -- one tick of a table; a mask is a byte, and any other number is refused
 unfoldable pub step : Table → State → ℕ → Tick State
-step t s mask = pick (nat_lt mask 256) (tickOf (ticked t s mask).answer (ticked t s mask).state) Refused
+step t s mask = pick (nat_lt mask 256) (tick_of (ticked t s mask).answer (ticked t s mask).state) Refused
 
 abbrev pub system : Table → System
 system t = record { State = State; Mask = ℕ; start = start; step = step t }

@@ -2,7 +2,7 @@
 ghost use Rattle.std.specs.Prelude.{◌≡◌, ◌+◌, ◌*◌};
 ghost use Rattle.tasks.specs.Words.{state_of};
 ghost use Rattle.states.specs.Bytes.{four};
-ghost use Rattle.states.specs.Keys.{keyOf, sameKeys, mixed};
+ghost use Rattle.states.specs.Keys.{key_of, same_keys, mixed};
 
 #[derive(Drop)]
 pub struct Key {
@@ -28,7 +28,7 @@ fn double(x: u16, y: u16) -> u32
 
 // The key of a state in words.
 pub fn key_of(v: [u16; 8]) -> Key
-    ensures { result ≡ keyOf (state_of v) }
+    ensures { result ≡ key_of (state_of v) }
 {
     Key {
         a: double(v[0], v[1]),
@@ -40,7 +40,7 @@ pub fn key_of(v: [u16; 8]) -> Key
 
 // Whether two keys are the same.
 pub fn same_keys(k: Key, l: Key) -> bool
-    ensures { result ≡ sameKeys k l }
+    ensures { result ≡ same_keys k l }
 {
     (k.a == l.a) & (k.b == l.b) & (k.c == l.c) & (k.d == l.d)
 }

@@ -1,10 +1,10 @@
 // The legal masks of a state, in increasing order.
 ghost use Rattle.std.specs.Prelude.{◌≡◌};
-ghost use Rattle.states.specs.Masks.{nextMask, follows};
+ghost use Rattle.states.specs.Masks.{next_mask, follows};
 
 // The submask of free after m, and 0 after the last.
 fn next_mask(free: u8, m: u8) -> u8
-    ensures { result ≡ nextMask free m }
+    ensures { result ≡ next_mask free m }
 {
     std::num::wrapping_sub_u8(m, free) & free
 }

@@ -1,6 +1,6 @@
 // Whether the mask of all tasks that may be released misses from a state.
 ghost use Rattle.std.specs.Prelude.{◌≡◌};
-ghost use Rattle.states.specs.Miss.{fullBy};
+ghost use Rattle.states.specs.Miss.{full_by};
 
 use tasks::{Table, Ticker, misses};
 
@@ -8,7 +8,7 @@ use tasks::{Table, Ticker, misses};
 // table's, some mask misses exactly where this one does, and then some job is tight before the tick. Most states have no tight job: a
 // caller asks `tasks::tight` first, and leaves them without a tick.
 pub fn full_misses(t: Table, ticker: Ticker, v: [u16; 8]) -> bool
-    ensures { result ≡ fullBy t ticker v }
+    ensures { result ≡ full_by t ticker v }
 {
     let free = ticker.free(v);
     let state = ticker.prepare(v);

@@ -1,7 +1,7 @@
 // The words of a state in bytes: c + 256 p for each task, its two bytes as one number.
 ghost use Rattle.std.specs.Prelude.{◌≡◌, ◌+◌, ◌*◌, ◌≤◌, length};
 ghost use Rattle.tasks.specs.Words.{state_of};
-ghost use Rattle.states.specs.Bytes.{stateFrom};
+ghost use Rattle.states.specs.Bytes.{state_from};
 
 // The number of two bytes, low byte first.
 fn two(x: u8, y: u8) -> u16
@@ -13,7 +13,7 @@ fn two(x: u8, y: u8) -> u16
 // The words of the state in the sixteen bytes from `at` on, which must be there. In this form the compiler reads them as one vector.
 pub(crate) fn words_from(bytes: &[u8], at: usize) -> [u16; 8]
     requires { at + 16 ≤ length bytes.now }
-    ensures { state_of result ≡ stateFrom bytes.now at }
+    ensures { state_of result ≡ state_from bytes.now at }
 {
     let mut v = [0u16; 8];
     let mut k: usize = 0;

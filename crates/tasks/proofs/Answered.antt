@@ -7,7 +7,7 @@ use native.Mathlib.Omega.{arith}
 use lib.Dec.{ltb}
 use borrow.Author.Tests.{ltb-true, ltb-false, lt-ltb, le-ltb}
 use Rattle.lists.specs.Lists.{pick}
-use Rattle.tasks.specs.Table.{tableFault}
+use Rattle.tasks.specs.Table.{table_fault}
 use Rattle.tasks.specs.State.{improper}
 use Rattle.tasks.specs.Tick.{illegal, released, chosen, ran, after, missed, refusal, answered, ticked}
 use Rattle.tasks.specs.declared.state.State.{State}
@@ -15,12 +15,12 @@ use Rattle.tasks.specs.declared.table.Table.{Table}
 use Rattle.tasks.specs.declared.tick.TickAnswer.TheVariants.{Next, Missed, Refused}
 use Rattle.lists.proofs.Bools.{by_bool}
 use Rattle.lists.proofs.Picks.{pick_yes, pick_no}
-use Rattle.tasks.proofs.Tables.{pick-zero}
-use Rattle.tasks.proofs.Proper.{proper-after}
+use Rattle.tasks.proofs.Tables.{pick_zero}
+use Rattle.tasks.proofs.Proper.{proper_after}
 
 -- a tick that neither refuses nor misses: what it is given, and what it leaves
 pub record Passed (t : Table) (s : State) (mask : ℕ) : Type 0 where
-  pub valid : tableFault t ≡ 0
+  pub valid : table_fault t ≡ 0
   pub proper : improper t s ≡ false
   pub legal : illegal t s mask ≡ false
   pub calm : missed t (after t s mask) ≡ false
@@ -28,9 +28,9 @@ pub record Passed (t : Table) (s : State) (mask : ℕ) : Type 0 where
 
 module _ (t : Table) (s : State) (mask : ℕ) where
   -- a tick is refused with the state given
-  pub ticked-refused : 0 < refusal t s mask → answered (Refused (refusal t s mask)) s ≡ ticked t s mask
+  pub ticked_refused : 0 < refusal t s mask → answered (Refused (refusal t s mask)) s ≡ ticked t s mask
   unfolding ticked
-  ticked-refused h = pick_yes _ (lt-ltb _ _ h)
+  ticked_refused h = pick_yes _ (lt-ltb _ _ h)
 
   pub ticked-missed :
       refusal t s mask ≤ 0 → missed t (after t s mask) ≡ true → answered Missed (after t s mask) ≡ ticked t s mask
@@ -43,72 +43,72 @@ module _ (t : Table) (s : State) (mask : ℕ) where
   ticked-next h e = pick_no _ (le-ltb _ _ h) (pick_no _ e refl)
 
   -- a tick is not refused exactly with a valid table, a proper state and a legal mask
-  pub refusal-none : tableFault t ≡ 0 → improper t s ≡ false → illegal t s mask ≡ false → refusal t s mask ≡ 0
+  pub refusal_none : table_fault t ≡ 0 → improper t s ≡ false → illegal t s mask ≡ false → refusal t s mask ≡ 0
   unfolding refusal
-  refusal-none valid proper legal = rw (valid, proper, legal)
+  refusal_none valid proper legal = rw (valid, proper, legal)
 
   -- a bad table refuses every tick
-  pub refusal-fault : 0 < tableFault t → 0 < refusal t s mask
+  pub refusal_fault : 0 < table_fault t → 0 < refusal t s mask
   unfolding refusal
-  refusal-fault bad = rw (lt-ltb 0 (tableFault t) bad) bad
+  refusal_fault bad = rw (lt-ltb 0 (table_fault t) bad) bad
 
-  pub refusal-passed : refusal t s mask ≤ 0 → (tableFault t ≡ 0) × (improper t s ≡ false) × (illegal t s mask ≡ false)
+  pub refusal_passed : refusal t s mask ≤ 0 → (table_fault t ≡ 0) × (improper t s ≡ false) × (illegal t s mask ≡ false)
   unfolding refusal
-  refusal-passed h =
+  refusal_passed h =
       let state : ℕ = pick (improper t s) 13 (pick (illegal t s mask) 11 0) in
-      by_bool (ltb 0 (tableFault t))
-      (λ e. absurd (omega (arith, ltb-true 0 (tableFault t) e, rw e at h)))
+      by_bool (ltb 0 (table_fault t))
+      (λ e. absurd (omega (arith, ltb-true 0 (table_fault t) e, rw e at h)))
       (λ e.
       let z : state ≤ 0 = rw e at h in
-      let a = pick-zero (improper t s) 13 (pick (illegal t s mask) 11 0) (omega arith) (omega arith) in
-      let b = pick-zero (illegal t s mask) 11 0 (omega arith) a.1 in
-      (omega (arith, ltb-false 0 (tableFault t) e), a.0, b.0))
+      let a = pick_zero (improper t s) 13 (pick (illegal t s mask) 11 0) (omega arith) (omega arith) in
+      let b = pick_zero (illegal t s mask) 11 0 (omega arith) a.1 in
+      (omega (arith, ltb-false 0 (table_fault t) e), a.0, b.0))
 
   -- LAW: with a valid table, a proper state and a legal mask, a tick is the state after step 4, missed or not
   pub ticked-legal :
-      tableFault t ≡ 0 → improper t s ≡ false → illegal t s mask ≡ false
+      table_fault t ≡ 0 → improper t s ≡ false → illegal t s mask ≡ false
       → ticked t s mask ≡ answered (pick (missed t (after t s mask)) Missed Next) (after t s mask)
   ticked-legal valid proper legal =
-      let none : refusal t s mask ≤ 0 = omega (arith, refusal-none valid proper legal) in
+      let none : refusal t s mask ≤ 0 = omega (arith, refusal_none valid proper legal) in
       by_bool (missed t (after t s mask))
       (λ e. rw e (sym (ticked-missed none e)))
       (λ e. rw e (sym (ticked-next none e)))
 
   module _ {r next : State} {run : List Bool} (r-is : r ≡ released t s mask) (run_is : run ≡ chosen t r) (next-is : next ≡ ran r run) where
-    steps-after : next ≡ after t s mask
+    steps_after : next ≡ after t s mask
     unfolding after
-    steps-after = cc
+    steps_after = cc
 
     -- LAW: .. and so, by its steps
     pub ticked-steps :
-        tableFault t ≡ 0 → improper t s ≡ false → illegal t s mask ≡ false → ticked t s mask ≡ answered (pick (missed t next) Missed Next) next
-    ticked-steps valid proper legal = rw steps-after (ticked-legal valid proper legal)
+        table_fault t ≡ 0 → improper t s ≡ false → illegal t s mask ≡ false → ticked t s mask ≡ answered (pick (missed t next) Missed Next) next
+    ticked-steps valid proper legal = rw steps_after (ticked-legal valid proper legal)
 
-  refused-mask : tableFault t ≡ 0 → improper t s ≡ false → illegal t s mask ≡ true → refusal t s mask ≡ 11
+  refused_mask : table_fault t ≡ 0 → improper t s ≡ false → illegal t s mask ≡ true → refusal t s mask ≡ 11
   unfolding refusal
-  refused-mask valid proper bad = rw (valid, proper, bad)
+  refused_mask valid proper bad = rw (valid, proper, bad)
 
   -- LAW: with a valid table and a proper state, a mask that is not legal is refused with 11 and the state given
   pub ticked-illegal :
-      tableFault t ≡ 0 → improper t s ≡ false → illegal t s mask ≡ true → ticked t s mask ≡ answered (Refused 11) s
+      table_fault t ≡ 0 → improper t s ≡ false → illegal t s mask ≡ true → ticked t s mask ≡ answered (Refused 11) s
   ticked-illegal valid proper bad =
-      let eleven : refusal t s mask ≡ 11 = refused-mask valid proper bad in
-      sym (ticked-refused (omega arith)) ∙ ap (λ r. answered (Refused r) s) eleven
+      let eleven : refusal t s mask ≡ 11 = refused_mask valid proper bad in
+      sym (ticked_refused (omega arith)) ∙ ap (λ r. answered (Refused r) s) eleven
 
   -- a tick that neither refuses nor misses was given a valid table, a proper state and a legal mask, and leaves the state after step 4
-  pub next-passed : (ticked t s mask).answer ≡ Next → Passed t s mask
-  next-passed e =
+  pub next_passed : (ticked t s mask).answer ≡ Next → Passed t s mask
+  next_passed e =
       by_bool (ltb 0 (refusal t s mask))
       (λ h.
-      let r = ticked-refused (ltb-true 0 (refusal t s mask) h) in
+      let r = ticked_refused (ltb-true 0 (refusal t s mask) h) in
       absurd (let z : ◌≡◌ {A = ℕ} 0 1 = cc (ap (λ x. x.answer) r) in omega arith))
       (λ h.
       let none = ltb-false 0 (refusal t s mask) h in
-      let ok = refusal-passed none in
+      let ok = refusal_passed none in
       by_bool (missed t (after t s mask))
       (λ m. absurd (let z : ◌≡◌ {A = ℕ} 0 1 = cc (ap (λ x. x.answer) (ticked-missed none m)) in omega arith))
       (λ m. record { valid = ok.0; proper = ok.1; legal = ok.2; calm = m; state = ap (λ x. x.state) (sym (ticked-next none m)) }))
 
   -- LAW: a tick that neither refuses nor misses leaves a proper state
-  pub ticked-proper : (ticked t s mask).answer ≡ Next → improper t (ticked t s mask).state ≡ false
-  ticked-proper e = let f = next-passed e in rw f.state (proper-after t s mask f.proper f.legal f.calm)
+  pub ticked_proper : (ticked t s mask).answer ≡ Next → improper t (ticked t s mask).state ≡ false
+  ticked_proper e = let f = next_passed e in rw f.state (proper_after t s mask f.proper f.legal f.calm)

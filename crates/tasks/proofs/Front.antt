@@ -8,8 +8,8 @@ use lib.ListN.{length, get_or, take}
 use lib.Seq.{get_or-take, length-take-le, take_all}
 use borrow.Author.Tests.{lt-ltb, ltb-true, ltb-false}
 use Rattle.tasks.specs.Number.{above, number_in, number_at}
-use Rattle.tasks.specs.Table.{lastPolicy}
-use Rattle.tasks.specs.Sheet.{emptyTable, acceptedAs, field_at, and_then, task_of, taskThen, taskAt, withTask, afterTask, tasksFrom, fromTasks, fromPolicy, sheetOf}
+use Rattle.tasks.specs.Table.{last_policy}
+use Rattle.tasks.specs.Sheet.{empty_table, accepted_as, field_at, and_then, task_of, task_then, task_at, with_task, after_task, tasks_from, from_tasks, from_policy, sheet_of}
 use Rattle.tasks.specs.declared.number.Number.{Number}
 use Rattle.tasks.specs.declared.number.Number.TheVariants.{Value, Refused}
 use Rattle.tasks.specs.declared.table.Table.{Table}
@@ -19,20 +19,20 @@ use Rattle.tasks.specs.declared.sheet.TaskRead.{TaskRead}
 use Rattle.tasks.specs.declared.sheet.TaskRead.TheVariants as TaskRead
 use Rattle.lists.proofs.Bools.{by_bool}
 use Rattle.tasks.proofs.Groups.{no_value}
-use Rattle.tasks.proofs.Fields.{field-read}
-use Rattle.tasks.proofs.Sheets.{sheet-short}
-use Rattle.tasks.proofs.RoundTrip.{task-of, task-passed, read-write, read-valid}
+use Rattle.tasks.proofs.Fields.{field_read}
+use Rattle.tasks.proofs.Sheets.{sheet_short}
+use Rattle.tasks.proofs.RoundTrip.{task_of_lem, task_passed, read_write, read_valid}
 
 -- ---- the place after what is read
 
-above-near : (g : ℕ) (x : Number) (v next n : ℕ) → ((w : ℕ) → x ≡ Value w next → next ≤ n) → above g x ≡ Value v next → next ≤ n
-above-near g (Value w m) v next n h e = let q : m ≡ next = cc in h w (ap (Value w) q)
-above-near g (Refused r) v next n h e = no_value e
+above_near : (g : ℕ) (x : Number) (v next n : ℕ) → ((w : ℕ) → x ≡ Value w next → next ≤ n) → above g x ≡ Value v next → next ≤ n
+above_near g (Value w m) v next n h e = let q : m ≡ next = cc in h w (ap (Value w) q)
+above_near g (Refused r) v next n h e = no_value e
 
-number-in-near : (k least : ℕ) (s : List ℕ) (at v next : ℕ) → number_in k least s at ≡ Value v next → next ≤ at + k
+number_in_near : (k least : ℕ) (s : List ℕ) (at v next : ℕ) → number_in k least s at ≡ Value v next → next ≤ at + k
 unfolding number_in
-number-in-near zero least s at v next e = no_value e
-number-in-near (suc k) least s at v next e =
+number_in_near zero least s at v next e = no_value e
+number_in_near (suc k) least s at v next e =
     by_bool (ltb at (length s))
     (λ h.
     by_bool (ltb (get_or s at 0) least) (λ a. no_value (rw (h, a) at e))
@@ -43,24 +43,24 @@ number-in-near (suc k) least s at v next e =
     let n : at + 1 ≡ next = cc in
     omega arith)
     (λ b.
-    above-near _ (number_in k 1 s (at + 1)) v next (at + suc k) (λ w f. omega (arith, number-in-near k 1 s (at + 1) w next f)) (rw (h, a, b) at e))))
+    above_near _ (number_in k 1 s (at + 1)) v next (at + suc k) (λ w f. omega (arith, number_in_near k 1 s (at + 1) w next f)) (rw (h, a, b) at e))))
     (λ h. no_value (rw h at e))
 
 -- a number ends within two bytes
-number-near : (s : List ℕ) (at v next : ℕ) → number_at s at ≡ Value v next → next ≤ at + 2
+number_near : (s : List ℕ) (at v next : ℕ) → number_at s at ≡ Value v next → next ≤ at + 2
 unfolding number_at
-number-near s at v next e = number-in-near 2 0 s at v next e
+number_near s at v next e = number_in_near 2 0 s at v next e
 
 -- a task within six
-task-near : (s : List ℕ) (at : ℕ) (task : Task) (next : ℕ) → taskAt s at ≡ TaskRead.Read task next → next ≤ at + 6
-unfolding taskAt
-task-near s at task next e =
-    let a = task-passed (number_at s at) (λ work a. taskThen (number_at s a) (λ deadline b. taskThen (number_at s b) (λ gap next. task_of work deadline gap next))) task next e in
-    let b = task-passed (number_at s a.at) (λ deadline b. taskThen (number_at s b) (λ gap next. task_of a.v deadline gap next)) task next a.then in
-    let c = task-passed (number_at s b.at) (λ gap next. task_of a.v b.v gap next) task next b.then in
-    let d = task-of a.v b.v c.v c.at c.then in
+task_near : (s : List ℕ) (at : ℕ) (task : Task) (next : ℕ) → task_at s at ≡ TaskRead.Read task next → next ≤ at + 6
+unfolding task_at
+task_near s at task next e =
+    let a = task_passed (number_at s at) (λ work a. task_then (number_at s a) (λ deadline b. task_then (number_at s b) (λ gap next. task_of work deadline gap next))) task next e in
+    let b = task_passed (number_at s a.at) (λ deadline b. task_then (number_at s b) (λ gap next. task_of a.v deadline gap next)) task next a.then in
+    let c = task_passed (number_at s b.at) (λ gap next. task_of a.v b.v gap next) task next b.then in
+    let d = task_of_lem a.v b.v c.v c.at c.then in
     omega
-    (arith, number-near s at a.v a.at a.is, number-near s a.at b.v b.at b.is, number-near s b.at c.v c.at c.is, d.4)
+    (arith, number_near s at a.v a.at a.is, number_near s a.at b.v b.at b.is, number_near s b.at c.v c.at c.is, d.4)
 
 -- ---- what follows a reading
 
@@ -69,13 +69,13 @@ then_same (Value v next) f g h = h v next refl
 then_same (Refused r) f g h = refl
 
 task-then-same :
-    (x : Number) (f g : ℕ → ℕ → TaskRead) → ((v next : ℕ) → x ≡ Value v next → f v next ≡ g v next) → taskThen x f ≡ taskThen x g
+    (x : Number) (f g : ℕ → ℕ → TaskRead) → ((v next : ℕ) → x ≡ Value v next → f v next ≡ g v next) → task_then x f ≡ task_then x g
 task-then-same (Value v next) f g h = h v next refl
 task-then-same (Refused r) f g h = refl
 
 after_same :
     (x : TaskRead) (f g : Task → ℕ → Sheet) → ((task : Task) (next : ℕ) → x ≡ TaskRead.Read task next → f task next ≡ g task next)
-    → afterTask x f ≡ afterTask x g
+    → after_task x f ≡ after_task x g
 after_same (TaskRead.Read task next) f g h = h task next refl
 after_same (TaskRead.Refused r) f g h = refl
 
@@ -83,8 +83,8 @@ after_same (TaskRead.Refused r) f g h = refl
 
 module _ (n : ℕ) (s : List ℕ) where
   -- whether a place before the cut is in the list
-  in-front : (at : ℕ) → at < n → ltb at (length (take n s)) ≡ ltb at (length s)
-  in-front at h =
+  in_front : (at : ℕ) → at < n → ltb at (length (take n s)) ≡ ltb at (length s)
+  in_front at h =
       by_bool (ltb n (length s))
       (λ e.
       let l = ltb-true n (length s) e in
@@ -92,70 +92,70 @@ module _ (n : ℕ) (s : List ℕ) where
       lt-ltb at (length (take n s)) (omega arith) ∙ sym (lt-ltb at (length s) (omega arith)))
       (λ e. ap (λ l. ltb at (length l)) (take_all n s (ltb-false n (length s) e)))
 
-  number-in-front : (k least at : ℕ) → at + k ≤ n → number_in k least (take n s) at ≡ number_in k least s at
+  number_in_front : (k least at : ℕ) → at + k ≤ n → number_in k least (take n s) at ≡ number_in k least s at
   unfolding number_in
-  number-in-front zero least at h = refl
-  number-in-front (suc k) least at h =
-      rw (in-front at (omega arith), get_or-take n s at 0 (omega arith), number-in-front k 1 (at + 1) (omega arith))
+  number_in_front zero least at h = refl
+  number_in_front (suc k) least at h =
+      rw (in_front at (omega arith), get_or-take n s at 0 (omega arith), number_in_front k 1 (at + 1) (omega arith))
 
-  number-front : (at : ℕ) → at + 2 ≤ n → number_at (take n s) at ≡ number_at s at
+  number_front : (at : ℕ) → at + 2 ≤ n → number_at (take n s) at ≡ number_at s at
   unfolding number_at
-  number-front at h = number-in-front 2 0 at h
+  number_front at h = number_in_front 2 0 at h
 
-  field-same : (at low high r : ℕ) → at + 2 ≤ n → field_at (take n s) at low high r ≡ field_at s at low high r
+  field_same : (at low high r : ℕ) → at + 2 ≤ n → field_at (take n s) at low high r ≡ field_at s at low high r
   unfolding field_at
-  field-same at low high r h = rw (number-front at h)
+  field_same at low high r h = rw (number_front at h)
 
   -- a field, and what follows it
   field-front :
       (at low high r : ℕ) (f g : ℕ → ℕ → Sheet) → at + 2 ≤ n → ((v next : ℕ) → v ≤ high → next ≤ at + 2 → f v next ≡ g v next)
       → and_then (field_at (take n s) at low high r) f ≡ and_then (field_at s at low high r) g
   field-front at low high r f g h same =
-      ap (λ x. and_then x f) (field-same at low high r h)
+      ap (λ x. and_then x f) (field_same at low high r h)
       ∙ then_same (field_at s at low high r) f g
-      (λ v next e. let w = field-read s at low high r e in same v next w.upto (number-near s at v next w.number))
+      (λ v next e. let w = field_read s at low high r e in same v next w.upto (number_near s at v next w.number))
 
-  task-front : (at : ℕ) → at + 6 ≤ n → taskAt (take n s) at ≡ taskAt s at
-  unfolding taskAt
-  task-front at h =
-      rw (number-front at (omega arith))
+  task_front : (at : ℕ) → at + 6 ≤ n → task_at (take n s) at ≡ task_at s at
+  unfolding task_at
+  task_front at h =
+      rw (number_front at (omega arith))
       (task-then-same (number_at s at) _ _
       (λ work a e.
-      let x = number-near s at work a e in
-      rw (number-front a (omega arith))
+      let x = number_near s at work a e in
+      rw (number_front a (omega arith))
       (task-then-same (number_at s a) _ _
       (λ deadline b f.
-      let y = number-near s a deadline b f in
-      rw (number-front b (omega arith))))))
+      let y = number_near s a deadline b f in
+      rw (number_front b (omega arith))))))
 
-  tasks-front : (k i : ℕ) (t : Table) (at : ℕ) → at + 6 * k < n → tasksFrom k i t (take n s) at ≡ tasksFrom k i t s at
-  unfolding tasksFrom
-  tasks-front zero i t at h = rw (in-front at (omega arith))
-  tasks-front (suc k) i t at h =
-      rw (task-front at (omega arith))
-      (after_same (taskAt s at) _ _
-      (λ task next e. tasks-front k (i + 1) (withTask t i task) next (omega (arith, task-near s at task next e))))
+  tasks_front : (k i : ℕ) (t : Table) (at : ℕ) → at + 6 * k < n → tasks_from k i t (take n s) at ≡ tasks_from k i t s at
+  unfolding tasks_from
+  tasks_front zero i t at h = rw (in_front at (omega arith))
+  tasks_front (suc k) i t at h =
+      rw (task_front at (omega arith))
+      (after_same (task_at s at) _ _
+      (λ task next e. tasks_front k (i + 1) (with_task t i task) next (omega (arith, task_near s at task next e))))
 
   -- policy, m, n and eight tasks take at most 54 bytes
-  policy-front : (at : ℕ) → at + 54 < n → fromPolicy (take n s) at ≡ fromPolicy s at
-  unfolding fromPolicy fromTasks
-  policy-front at h =
-      field-front at 0 lastPolicy 4 _ _ (omega arith)
+  policy_front : (at : ℕ) → at + 54 < n → from_policy (take n s) at ≡ from_policy s at
+  unfolding from_policy from_tasks
+  policy_front at h =
+      field-front at 0 last_policy 4 _ _ (omega arith)
       (λ policy a x y.
       field-front a 1 8 5 _ _ (omega arith)
       (λ m b z w.
       field-front b 1 8 6 _ _ (omega arith)
-      (λ count c u v. tasks-front count 0 (emptyTable policy m count) c (omega arith))))
+      (λ count c u v. tasks_front count 0 (empty_table policy m count) c (omega arith))))
 
   -- LAW: what a sheet answers stands in its first 57 bytes
-  pub front : 56 < n → sheetOf (take n s) ≡ sheetOf s
-  unfolding sheetOf
-  front h = field-front 0 3 3 3 _ _ (omega arith) (λ fields a x y. policy-front a (omega arith))
+  pub front : 56 < n → sheet_of (take n s) ≡ sheet_of s
+  unfolding sheet_of
+  front h = field-front 0 3 3 3 _ _ (omega arith) (λ fields a x y. policy_front a (omega arith))
 
 -- LAW: bytes after the 64th never change what a sheet answers
-pub sheet-front : (s : List ℕ) → sheetOf (take 64 s) ≡ sheetOf s
-sheet-front s = front 64 s (omega arith)
+pub sheet_front : (s : List ℕ) → sheet_of (take 64 s) ≡ sheet_of s
+sheet_front s = front 64 s (omega arith)
 
 -- LAW: an accepted sheet has at most 52 bytes
-pub accepted-short : (s : List ℕ) → ((i : ℕ) → get_or s i 0 < 256) → (t : Table) → sheetOf s ≡ acceptedAs t → length s ≤ 52
-accepted-short s byte t e = omega (arith, ap length (read-write s byte t e), sheet-short t (read-valid s byte t e))
+pub accepted_short : (s : List ℕ) → ((i : ℕ) → get_or s i 0 < 256) → (t : Table) → sheet_of s ≡ accepted_as t → length s ≤ 52
+accepted_short s byte t e = omega (arith, ap length (read_write s byte t e), sheet_short t (read_valid s byte t e))

@@ -5,10 +5,10 @@ use mathlib.Core.List.{List, [], ◌∷◌, ◌++◌}
 use mathlib.Core.Bool.{false}
 use native.Mathlib.Omega.{arith}
 use lib.ListN.{length}
-use Rattle.tasks.specs.Table.{tableFault}
+use Rattle.tasks.specs.Table.{table_fault}
 use Rattle.tasks.specs.State.{start, improper}
 use Rattle.tasks.specs.Tick.{ticked}
-use Rattle.tasks.specs.Replay.{playNext, played, replayed}
+use Rattle.tasks.specs.Replay.{play_next, played, replayed}
 use Rattle.tasks.specs.declared.state.State.{State}
 use Rattle.tasks.specs.declared.table.Table.{Table}
 use Rattle.tasks.specs.declared.tick.TickAnswer.{TickAnswer}
@@ -16,9 +16,9 @@ use Rattle.tasks.specs.declared.tick.TickAnswer.TheVariants as Tick
 use Rattle.tasks.specs.declared.play.Outcome.TheVariants.{Kept}
 use Rattle.tasks.specs.declared.play.ReplayAnswer.TheVariants.{Played}
 use Rattle.tasks.specs.declared.play.Replayed.{Replayed}
-use Rattle.tasks.proofs.Proper.{start-proper}
-use Rattle.tasks.proofs.Answered.{ticked-proper}
-use Rattle.tasks.proofs.Played.{replayed-played}
+use Rattle.tasks.proofs.Proper.{start_proper}
+use Rattle.tasks.proofs.Answered.{ticked_proper}
+use Rattle.tasks.proofs.Played.{replayed_played}
 
 -- Kept with a state
 abbrev pub kept : State → Replayed
@@ -26,7 +26,7 @@ kept s = record { answer = Played Kept; state = s }
 
 -- where a tick goes on to a kept list it answered with the next state, and what follows from the rest follows
 pub next-kept :
-    {X : Type 0} (k : ℕ) (s s₁ s' : State) (rest : Replayed) (a : TickAnswer) → playNext k s s₁ rest a ≡ kept s'
+    {X : Type 0} (k : ℕ) (s s₁ s' : State) (rest : Replayed) (a : TickAnswer) → play_next k s s₁ rest a ≡ kept s'
     → (a ≡ Tick.Next → rest ≡ kept s' → X) → X
 next-kept k s s₁ s' rest Tick.Next e f = f refl e
 next-kept k s s₁ s' rest Tick.Missed e f = absurd (let z : ◌≡◌ {A = ℕ} 0 1 = cc (ap (λ r. r.answer) e) in omega arith)
@@ -42,34 +42,34 @@ module _ (t : Table) where
       let s₁ = (ticked t s mask).state in
       next-kept (k + 1) s s₁ s' (played t s₁ (k + 1) masks) (ticked t s mask).answer e
       (λ next rest.
-      ap (playNext (k + 1) s s₁ (played t s₁ (k + 1) (masks ++ l'))) next
+      ap (play_next (k + 1) s s₁ (played t s₁ (k + 1) (masks ++ l'))) next
       ∙ played-joined s₁ (k + 1) masks l' s' rest
       ∙ ap (λ n. played t s' n l') (omega arith))
 
   -- LAW: a list that is kept from a proper state ends in one
-  pub played-proper : (s : State) (k : ℕ) (l : List ℕ) (s' : State) → improper t s ≡ false → played t s k l ≡ kept s' → improper t s' ≡ false
+  pub played_proper : (s : State) (k : ℕ) (l : List ℕ) (s' : State) → improper t s ≡ false → played t s k l ≡ kept s' → improper t s' ≡ false
   unfolding played
-  played-proper s k [] s' proper e = ap (λ r. improper t r.state) (sym e) ∙ proper
-  played-proper s k (mask ∷ masks) s' proper e =
+  played_proper s k [] s' proper e = ap (λ r. improper t r.state) (sym e) ∙ proper
+  played_proper s k (mask ∷ masks) s' proper e =
       let s₁ = (ticked t s mask).state in
       next-kept (k + 1) s s₁ s' (played t s₁ (k + 1) masks) (ticked t s mask).answer e
-      (λ next rest. played-proper s₁ (k + 1) masks s' (ticked-proper t s mask next) rest)
+      (λ next rest. played_proper s₁ (k + 1) masks s' (ticked_proper t s mask next) rest)
 
-  played-one : (s : State) (k mask : ℕ) → (ticked t s mask).answer ≡ Tick.Next → played t s k (mask ∷ []) ≡ kept (ticked t s mask).state
+  played_one : (s : State) (k mask : ℕ) → (ticked t s mask).answer ≡ Tick.Next → played t s k (mask ∷ []) ≡ kept (ticked t s mask).state
   unfolding played
-  played-one s k mask e = ap (playNext (k + 1) s (ticked t s mask).state (kept (ticked t s mask).state)) e
+  played_one s k mask e = ap (play_next (k + 1) s (ticked t s mask).state (kept (ticked t s mask).state)) e
 
-  module _ (valid : tableFault t ≡ 0) where
-    is-played : (l : List ℕ) → played t start 0 l ≡ replayed t l
-    is-played l = replayed-played t l (omega arith)
+  module _ (valid : table_fault t ≡ 0) where
+    is_played : (l : List ℕ) → played t start 0 l ≡ replayed t l
+    is_played l = replayed_played t l (omega arith)
 
     -- LAW: a replay that is kept ends in a proper state
-    pub kept-proper : (l : List ℕ) (s : State) → replayed t l ≡ kept s → improper t s ≡ false
-    kept-proper l s e = played-proper start 0 l s (start-proper t) (is-played l ∙ e)
+    pub kept_proper : (l : List ℕ) (s : State) → replayed t l ≡ kept s → improper t s ≡ false
+    kept_proper l s e = played_proper start 0 l s (start_proper t) (is_played l ∙ e)
 
     -- LAW: a replay that is kept, and one tick more that neither refuses nor misses
     pub kept_more :
         (l : List ℕ) (s : State) (mask : ℕ) → replayed t l ≡ kept s → (ticked t s mask).answer ≡ Tick.Next
         → replayed t (l ++ (mask ∷ [])) ≡ kept (ticked t s mask).state
     kept_more l s mask e next =
-        sym (is-played (l ++ (mask ∷ []))) ∙ played-joined start 0 l (mask ∷ []) s (is-played l ∙ e) ∙ played-one s (0 + length l) mask next
+        sym (is_played (l ++ (mask ∷ []))) ∙ played-joined start 0 l (mask ∷ []) s (is_played l ∙ e) ∙ played_one s (0 + length l) mask next

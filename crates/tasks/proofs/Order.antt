@@ -10,7 +10,7 @@ use lib.IntN.{ℤ, pos, negsuc}
 use lib.Signed.{lt_z}
 use borrow.Author.Tests.{ltb-true, ltb-false, lt-ltb, le-ltb}
 use Rattle.lists.specs.Lists.{count}
-use Rattle.lists.proofs.Bools.{by_bool, clash, and_left, and_right, both, or_left, or_right, or_cases, not_yes, not-no}
+use Rattle.lists.proofs.Bools.{by_bool, clash, and_left, and_right, both, or_left, or_right, or_cases, not_yes, not_no}
 use Rattle.lists.proofs.Counts.{count_less}
 
 -- ---- a strict total order
@@ -29,14 +29,14 @@ by_number =
       irrefl = λ i. le-ltb i i (omega arith);
     }
 
-ltZ-trans : (a b c : ℤ) → lt_z a b ≡ true → lt_z b c ≡ true → lt_z a c ≡ true
-ltZ-trans (pos a) (pos b) (pos c) e h = by_number.trans a b c e h
-ltZ-trans (pos a) (pos b) (negsuc c) e h = h
-ltZ-trans (pos a) (negsuc b) c e h = clash e refl
-ltZ-trans (negsuc a) (pos b) (pos c) e h = refl
-ltZ-trans (negsuc a) (pos b) (negsuc c) e h = clash h refl
-ltZ-trans (negsuc a) (negsuc b) (pos c) e h = refl
-ltZ-trans (negsuc a) (negsuc b) (negsuc c) e h = by_number.trans c b a h e
+lt_z_trans : (a b c : ℤ) → lt_z a b ≡ true → lt_z b c ≡ true → lt_z a c ≡ true
+lt_z_trans (pos a) (pos b) (pos c) e h = by_number.trans a b c e h
+lt_z_trans (pos a) (pos b) (negsuc c) e h = h
+lt_z_trans (pos a) (negsuc b) c e h = clash e refl
+lt_z_trans (negsuc a) (pos b) (pos c) e h = refl
+lt_z_trans (negsuc a) (pos b) (negsuc c) e h = clash h refl
+lt_z_trans (negsuc a) (negsuc b) (pos c) e h = refl
+lt_z_trans (negsuc a) (negsuc b) (negsuc c) e h = by_number.trans c b a h e
 
 lt_z_same : (a b : ℤ) → lt_z a b ≡ false → lt_z b a ≡ false → a ≡ b
 lt_z_same (pos a) (pos b) e h = ap pos (omega (arith, ltb-false a b e, ltb-false b a h))
@@ -44,9 +44,9 @@ lt_z_same (pos a) (negsuc b) e h = clash refl h
 lt_z_same (negsuc a) (pos b) e h = clash refl e
 lt_z_same (negsuc a) (negsuc b) e h = ap negsuc (omega (arith, ltb-false b a e, ltb-false a b h))
 
-ltZ-irrefl : (a : ℤ) → lt_z a a ≡ false
-ltZ-irrefl (pos a) = le-ltb a a (omega arith)
-ltZ-irrefl (negsuc a) = le-ltb a a (omega arith)
+lt_z_irrefl : (a : ℤ) → lt_z a a ≡ false
+lt_z_irrefl (pos a) = le-ltb a a (omega arith)
+lt_z_irrefl (negsuc a) = le-ltb a a (omega arith)
 
 -- ---- by a number first, and in another order among equal ones
 
@@ -61,8 +61,8 @@ pub record Ranked (L : ℕ → ℕ → Bool) : Type 0 where
 pub upward : (key : ℕ → ℤ) → Ranked (λ i j. lt_z (key i) (key j))
 upward key =
     record {
-      trans = λ i j k. ltZ-trans (key i) (key j) (key k);
-      irrefl = λ i. ltZ-irrefl (key i);
+      trans = λ i j k. lt_z_trans (key i) (key j) (key k);
+      irrefl = λ i. lt_z_irrefl (key i);
       left = λ i j k e h l. rw (lt_z_same (key i) (key j) e h) l;
       right = λ i j k e h l. rw (lt_z_same (key k) (key j) h e) l;
     }
@@ -71,8 +71,8 @@ upward key =
 pub downward : (key : ℕ → ℤ) → Ranked (λ i j. lt_z (key j) (key i))
 downward key =
     record {
-      trans = λ i j k e h. ltZ-trans (key k) (key j) (key i) h e;
-      irrefl = λ i. ltZ-irrefl (key i);
+      trans = λ i j k e h. lt_z_trans (key k) (key j) (key i) h e;
+      irrefl = λ i. lt_z_irrefl (key i);
       left = λ i j k e h l. rw (lt_z_same (key i) (key j) h e) l;
       right = λ i j k e h l. rw (lt_z_same (key k) (key j) e h) l;
     }
@@ -81,50 +81,50 @@ module _ (L B : ℕ → ℕ → Bool) (r : Ranked L) (o : Order B) where
   first : ℕ → ℕ → Bool
   first i j = L i j || (not (L j i) && B i j)
 
-  first-less : (i j : ℕ) → L i j ≡ true → first i j ≡ true
+  first_less : (i j : ℕ) → L i j ≡ true → first i j ≡ true
   unfolding first
-  first-less i j e = or_left (not (L j i) && B i j) e
+  first_less i j e = or_left (not (L j i) && B i j) e
 
-  first-equal : (i j : ℕ) → L j i ≡ false → B i j ≡ true → first i j ≡ true
+  first_equal : (i j : ℕ) → L j i ≡ false → B i j ≡ true → first i j ≡ true
   unfolding first
-  first-equal i j e h = or_right (L i j) (both (not_yes e) h)
+  first_equal i j e h = or_right (L i j) (both (not_yes e) h)
 
-  first-cases : {X : Type 0} (i j : ℕ) → first i j ≡ true → (L i j ≡ true → X) → (L i j ≡ false → L j i ≡ false → B i j ≡ true → X) → X
+  first_cases : {X : Type 0} (i j : ℕ) → first i j ≡ true → (L i j ≡ true → X) → (L i j ≡ false → L j i ≡ false → B i j ≡ true → X) → X
   unfolding first
-  first-cases i j e f g =
+  first_cases i j e f g =
       or_cases (L i j) (not (L j i) && B i j) e f
-      (λ h k. g h (not-no (L j i) (and_left (not (L j i)) (B i j) k)) (and_right (not (L j i)) (B i j) k))
+      (λ h k. g h (not_no (L j i) (and_left (not (L j i)) (B i j) k)) (and_right (not (L j i)) (B i j) k))
 
-  first-trans : (i j k : ℕ) → first i j ≡ true → first j k ≡ true → first i k ≡ true
-  first-trans i j k e h =
-      first-cases i j e
-      (λ l. first-cases j k h (λ m. first-less i k (r.trans i j k l m)) (λ m n b. first-less i k (r.right i j k m n l)))
+  first_trans : (i j k : ℕ) → first i j ≡ true → first j k ≡ true → first i k ≡ true
+  first_trans i j k e h =
+      first_cases i j e
+      (λ l. first_cases j k h (λ m. first_less i k (r.trans i j k l m)) (λ m n b. first_less i k (r.right i j k m n l)))
       (λ l n b.
-      first-cases j k h
-      (λ m. first-less i k (r.left i j k l n m))
+      first_cases j k h
+      (λ m. first_less i k (r.left i j k l n m))
       (λ m q d.
-      first-equal i k
+      first_equal i k
       (by_bool (L k i) (λ z. clash (r.right k i j l n z) q) (λ z. z))
       (o.trans i j k b d)))
 
-  first-total : (i j : ℕ) → (i ≡ j → ⊥) → first i j ≡ false → first j i ≡ true
-  first-total i j d e =
-      by_bool (L j i) (λ h. first-less j i h)
-      (λ h. by_bool (L i j) (λ k. clash (first-less i j k) e)
-      (λ k. by_bool (B i j) (λ b. clash (first-equal i j h b) e) (λ b. first-equal j i k (o.total i j d b))))
+  first_total : (i j : ℕ) → (i ≡ j → ⊥) → first i j ≡ false → first j i ≡ true
+  first_total i j d e =
+      by_bool (L j i) (λ h. first_less j i h)
+      (λ h. by_bool (L i j) (λ k. clash (first_less i j k) e)
+      (λ k. by_bool (B i j) (λ b. clash (first_equal i j h b) e) (λ b. first_equal j i k (o.total i j d b))))
 
   -- LAW: which is a strict total order again
   pub by_rank : Order (λ i j. L i j || (not (L j i) && B i j))
   unfolding first
   by_rank =
-      record { trans = first-trans; total = first-total; irrefl = λ i. rw (r.irrefl i, o.irrefl i) }
+      record { trans = first_trans; total = first_total; irrefl = λ i. rw (r.irrefl i, o.irrefl i) }
 
 -- ---- how many go before
 
 module _ (B : ℕ → ℕ → Bool) (o : Order B) where
   -- LAW: what goes before another has fewer before it
-  pub fewer-before : (n j i : ℕ) → j < n → B j i ≡ true → count n (λ k. B k j) < count n (λ k. B k i)
-  fewer-before n j i h e = count_less (λ k. B k j) (λ k. B k i) j n h (λ k l b. o.trans k j i b e) (o.irrefl j) e
+  pub fewer_before : (n j i : ℕ) → j < n → B j i ≡ true → count n (λ k. B k j) < count n (λ k. B k i)
+  fewer_before n j i h e = count_less (λ k. B k j) (λ k. B k i) j n h (λ k l b. o.trans k j i b e) (o.irrefl j) e
 
 -- ---- the last of those that pass a test
 

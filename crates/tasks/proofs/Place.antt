@@ -11,18 +11,18 @@ use mir.Syntax.{w16}
 use mir.Val.{Fits, bool_byte}
 use borrow.Author.Tests.{eq-eqb, ne_eqb, lt-ltb, le-ltb}
 use Rattle.lists.specs.Lists.{eight, count}
-use Rattle.tasks.specs.State.{notPreempted, ready, started, keeps}
+use Rattle.tasks.specs.State.{not_preempted, ready, started, keeps}
 use Rattle.tasks.specs.Tick.{key, age, before, ahead, runs, chosen}
-use Rattle.cores.specs.Walk.{under, sooner, leads, rank, keptCount, taken}
-use Rattle.tasks.specs.Places.{earlier, place, beforeIn, earlierIn}
+use Rattle.cores.specs.Walk.{under, sooner, leads, rank, kept_count, taken}
+use Rattle.tasks.specs.Places.{earlier, place, before_in, earlier_in}
 use Rattle.tasks.specs.declared.state.State.{State}
 use Rattle.tasks.specs.declared.table.Table.{Table}
-use Rattle.lists.proofs.Fill.{eight-at, eight-same}
+use Rattle.lists.proofs.Fill.{eight_at, eight_same}
 use Rattle.lists.proofs.Bools.{by_bool}
 use Rattle.lists.proofs.Counts.{count_same}
-use Rattle.lists.proofs.Turns.{count_turn, count_room, count-le}
-use Rattle.cores.proofs.RankLaws.{sooner-some}
-use Rattle.tasks.proofs.Order.{fewer-before}
+use Rattle.lists.proofs.Turns.{count_turn, count_room, count_le}
+use Rattle.cores.proofs.RankLaws.{sooner_some}
+use Rattle.tasks.proofs.Order.{fewer_before}
 use Rattle.tasks.proofs.Choice.{in_order}
 
 -- the job of task i waits for a processor
@@ -39,29 +39,29 @@ pub record Placed (t : Table) (s : State) (places : List ℕ) : Type 0 where
   pub order : (j i : ℕ) → Waits t s j → Waits t s i → sooner (get_or places j 0) j (get_or places i 0) i ≡ before t s j i
 
 -- a task with no job goes before none that has one
-sooner-none : (j x i : ℕ) → x < 65534 → sooner 65535 j x i ≡ false
+sooner_none : (j x i : ℕ) → x < 65534 → sooner 65535 j x i ≡ false
 unfolding sooner
-sooner-none j x i h = rw (lt-ltb x 65534 h, le-ltb 65534 x (omega arith), ne_eqb 65534 x (λ e. omega arith))
+sooner_none j x i h = rw (lt-ltb x 65534 h, le-ltb 65534 x (omega arith), ne_eqb 65534 x (λ e. omega arith))
 
 -- ---- the choice by any such places
 
 module _ (t : Table) (s : State) (places : List ℕ) (placed : Placed t s places) where
   -- those that go before a job that waits are those ahead of it
-  place-ahead : (j i : ℕ) → j < 8 → Waits t s i → leads places i j ≡ ahead t s i j
+  place_ahead : (j i : ℕ) → j < 8 → Waits t s i → leads places i j ≡ ahead t s i j
   unfolding ahead leads
-  place-ahead j i h w =
+  place_ahead j i h w =
       let x = get_or places i 0 in
       by_bool (ready s j)
       (λ y.
       by_bool (keeps t s j)
-      (λ z. rw (placed.kept j h y z, y, z) (sooner-some 0 j x i (omega arith) (placed.some i w).1 ∙ rw (lt-ltb 0 x (placed.some i w).0)))
+      (λ z. rw (placed.kept j h y z, y, z) (sooner_some 0 j x i (omega arith) (placed.some i w).1 ∙ rw (lt-ltb 0 x (placed.some i w).0)))
       (λ z. rw (y, z) (placed.order j i (record { small = h; has = y; free = z }) w)))
       (λ y.
-      rw (placed.none j h y, y) (sooner-none j x i (placed.some i w).1))
+      rw (placed.none j h y, y) (sooner_none j x i (placed.some i w).1))
 
   counted : (i : ℕ) → Waits t s i → rank places 8 i ≡ count 8 (ahead t s i)
   unfolding rank
-  counted i w = count_same (leads places i) (ahead t s i) 8 (λ j k. place-ahead j i k w)
+  counted i w = count_same (leads places i) (ahead t s i) 8 (λ j k. place_ahead j i k w)
 
   pub taken_runs : (i : ℕ) → i < 8 → taken places t.m i ≡ runs t s i
   unfolding taken under runs
@@ -76,48 +76,48 @@ module _ (t : Table) (s : State) (places : List ℕ) (placed : Placed t s places
       (λ r. rw (placed.none i h r, r))
 
   -- LAW: the tasks taken by their places are those that run
-  pub taken-chosen : eight (taken places t.m) ≡ chosen t s
+  pub taken_chosen : eight (taken places t.m) ≡ chosen t s
   unfolding chosen
-  taken-chosen = eight-same (taken places t.m) (runs t s) taken_runs
+  taken_chosen = eight_same (taken places t.m) (runs t s) taken_runs
 
-  kept-place : (i : ℕ) → i < 8 → under places 1 i ≡ keeps t s i
+  kept_place : (i : ℕ) → i < 8 → under places 1 i ≡ keeps t s i
   unfolding under keeps started
-  kept-place i h =
+  kept_place i h =
       by_bool (ready s i)
       (λ r. by_bool (keeps t s i)
       (λ e. rw (placed.kept i h r e) (sym e))
       (λ e. le-ltb (get_or places i 0) 1 (placed.some i (record { small = h; has = r; free = e })).0 ∙ sym e))
-      (λ r. rw (placed.none i h r, r) (by_bool (notPreempted t) (λ b. rw b) (λ b. rw b)))
+      (λ r. rw (placed.none i h r, r) (by_bool (not_preempted t) (λ b. rw b) (λ b. rw b)))
 
   -- LAW: as many places are 0 as jobs keep their processors
-  pub places-kept : keptCount places ≡ count 8 (keeps t s)
-  unfolding keptCount
-  places-kept = count_same (under places 1) (keeps t s) 8 kept-place
+  pub places_kept : kept_count places ≡ count 8 (keeps t s)
+  unfolding kept_count
+  places_kept = count_same (under places 1) (keeps t s) 8 kept_place
 
 -- ---- how many go before, counted for all tasks at once
 
 module _ (keys ages : List ℤ) where
-  pub earlier-start : eight (λ i. 0) ≡ eight (earlierIn keys ages 0)
-  unfolding earlierIn count
-  earlier-start = refl
+  pub earlier_start : eight (λ i. 0) ≡ eight (earlier_in keys ages 0)
+  unfolding earlier_in count
+  earlier_start = refl
 
-  module _ {counts : List ℕ} (j i : ℕ) (e : counts ≡ eight (earlierIn keys ages j)) (h : i < 8) where
-    earlier-read : get_or counts i 0 ≡ earlierIn keys ages j i
-    earlier-read = ap (λ l. get_or l i 0) e ∙ eight-at 0 (earlierIn keys ages j) i h
+  module _ {counts : List ℕ} (j i : ℕ) (e : counts ≡ eight (earlier_in keys ages j)) (h : i < 8) where
+    earlier_read : get_or counts i 0 ≡ earlier_in keys ages j i
+    earlier_read = ap (λ l. get_or l i 0) e ∙ eight_at 0 (earlier_in keys ages j) i h
 
-    pub earlier-turn : {b : Bool} → b ≡ beforeIn keys ages j i → get_or counts i 0 + bool_byte b ≡ earlierIn keys ages (j + 1) i
-    unfolding earlierIn
-    earlier-turn is = count_turn (λ k. beforeIn keys ages k i) j earlier-read is
+    pub earlier_turn : {b : Bool} → b ≡ before_in keys ages j i → get_or counts i 0 + bool_byte b ≡ earlier_in keys ages (j + 1) i
+    unfolding earlier_in
+    earlier_turn is = count_turn (λ k. before_in keys ages k i) j earlier_read is
 
-    pub earlier-room : (b : Bool) → j ≤ 8 → Fits w16 (get_or counts i 0 + bool_byte b)
-    unfolding earlierIn
-    earlier-room b k = let f = count_room (λ k. beforeIn keys ages k i) b earlier-read k in omega arith
+    pub earlier_room : (b : Bool) → j ≤ 8 → Fits w16 (get_or counts i 0 + bool_byte b)
+    unfolding earlier_in
+    earlier_room b k = let f = count_room (λ k. before_in keys ages k i) b earlier_read k in omega arith
 
 -- ---- a place that says how many go before
 
 module _ (t : Table) (s : State) where
   at : (i : ℕ) → i < 8 → get_or (eight (place t s)) i 0 ≡ place t s i
-  at = eight-at 0 (place t s)
+  at = eight_at 0 (place t s)
 
   place_none : (i : ℕ) → ready s i ≡ false → place t s i ≡ 65535
   unfolding place
@@ -127,57 +127,57 @@ module _ (t : Table) (s : State) where
   unfolding place
   place_kept i r e = rw (r, e)
 
-  place-waits : (i : ℕ) → Waits t s i → get_or (eight (place t s)) i 0 ≡ suc (earlier t s i)
+  place_waits : (i : ℕ) → Waits t s i → get_or (eight (place t s)) i 0 ≡ suc (earlier t s i)
   unfolding place
-  place-waits i w = at i w.small ∙ rw (w.has, w.free)
+  place_waits i w = at i w.small ∙ rw (w.has, w.free)
 
-  before-in : (j i : ℕ) → j < 8 → i < 8 → beforeIn (eight (key t s)) (eight (age t s)) j i ≡ before t s j i
-  unfolding beforeIn before
-  before-in j i h k =
-      rw (eight-at (pos 0) (key t s) j h, eight-at (pos 0) (key t s) i k, eight-at (pos 0) (age t s) j h, eight-at (pos 0) (age t s) i k)
+  before_in_lem : (j i : ℕ) → j < 8 → i < 8 → before_in (eight (key t s)) (eight (age t s)) j i ≡ before t s j i
+  unfolding before_in before
+  before_in_lem j i h k =
+      rw (eight_at (pos 0) (key t s) j h, eight_at (pos 0) (key t s) i k, eight_at (pos 0) (age t s) j h, eight_at (pos 0) (age t s) i k)
 
   -- by keys and ages made once for all tasks, as many go before
-  earlier-in : (i : ℕ) → i < 8 → earlierIn (eight (key t s)) (eight (age t s)) 8 i ≡ earlier t s i
-  unfolding earlierIn earlier
-  earlier-in i h = count_same (λ j. beforeIn (eight (key t s)) (eight (age t s)) j i) (λ j. before t s j i) 8 (λ j k. before-in j i k h)
+  earlier_in_lem : (i : ℕ) → i < 8 → earlier_in (eight (key t s)) (eight (age t s)) 8 i ≡ earlier t s i
+  unfolding earlier_in earlier
+  earlier_in_lem i h = count_same (λ j. before_in (eight (key t s)) (eight (age t s)) j i) (λ j. before t s j i) 8 (λ j k. before_in_lem j i k h)
 
   pub earlier-counted :
-      {counts : List ℕ} → counts ≡ eight (earlierIn (eight (key t s)) (eight (age t s)) 8) → (i : ℕ) → i < 8
+      {counts : List ℕ} → counts ≡ eight (earlier_in (eight (key t s)) (eight (age t s)) 8) → (i : ℕ) → i < 8
       → (get_or counts i 0 ≡ earlier t s i) × (get_or counts i 0 ≤ 8)
   unfolding earlier
   earlier-counted e i h =
-      let is = ap (λ l. get_or l i 0) e ∙ eight-at 0 (earlierIn (eight (key t s)) (eight (age t s)) 8) i h ∙ earlier-in i h in
-      (is, omega (arith, is, count-le (λ j. before t s j i) 8))
+      let is = ap (λ l. get_or l i 0) e ∙ eight_at 0 (earlier_in (eight (key t s)) (eight (age t s)) 8) i h ∙ earlier_in_lem i h in
+      (is, omega (arith, is, count_le (λ j. before t s j i) 8))
 
-  earlier-less : (j i : ℕ) → j < 8 → before t s j i ≡ true → earlier t s j < earlier t s i
+  earlier_less : (j i : ℕ) → j < 8 → before t s j i ≡ true → earlier t s j < earlier t s i
   unfolding earlier
-  earlier-less j i h e = fewer-before (before t s) (in_order t s) 8 j i h e
+  earlier_less j i h e = fewer_before (before t s) (in_order t s) 8 j i h e
 
-  earlier-most : (i : ℕ) → earlier t s i < 9
+  earlier_most : (i : ℕ) → earlier t s i < 9
   unfolding earlier
-  earlier-most i = omega (arith, count-le (λ j. before t s j i) 8)
+  earlier_most i = omega (arith, count_le (λ j. before t s j i) 8)
 
   -- how many go before tells two tasks apart as the order does
-  sooner-earlier : (j i : ℕ) → j < 8 → i < 8 → sooner (suc (earlier t s j)) j (suc (earlier t s i)) i ≡ before t s j i
-  sooner-earlier j i h k =
+  sooner_earlier : (j i : ℕ) → j < 8 → i < 8 → sooner (suc (earlier t s j)) j (suc (earlier t s i)) i ≡ before t s j i
+  sooner_earlier j i h k =
       let y = suc (earlier t s j) in
       let x = suc (earlier t s i) in
-      sooner-some y j x i (omega (arith, earlier-most j)) (omega (arith, earlier-most i))
+      sooner_some y j x i (omega (arith, earlier_most j)) (omega (arith, earlier_most i))
       ∙ by_bool (before t s j i)
-      (λ e. rw (e, lt-ltb y x (omega (arith, earlier-less j i h e))))
+      (λ e. rw (e, lt-ltb y x (omega (arith, earlier_less j i h e))))
       (λ e. elim (ℕ_discrete j i) [
         | yes q ↦ rw (e, q, le-ltb x x (omega arith), eq-eqb x x (omega arith), le-ltb i i (omega arith))
         | no d ↦
-            let l = earlier-less i j k ((in_order t s).total j i d e) in
+            let l = earlier_less i j k ((in_order t s).total j i d e) in
             rw (e, le-ltb y x (omega arith), ne_eqb y x (λ z. omega arith))
       ])
 
   -- LAW: these places stand in the order of the jobs, for any state
-  pub places-placed : Placed t s (eight (place t s))
-  places-placed =
+  pub places_placed : Placed t s (eight (place t s))
+  places_placed =
       record {
         none = λ i h r. at i h ∙ place_none i r;
         kept = λ i h r e. at i h ∙ place_kept i r e;
-        some = λ i w. (omega (arith, place-waits i w), omega (arith, place-waits i w, earlier-most i));
-        order = λ j i w x. rw (place-waits j w, place-waits i x) (sooner-earlier j i w.small x.small);
+        some = λ i w. (omega (arith, place_waits i w), omega (arith, place_waits i w, earlier_most i));
+        order = λ j i w x. rw (place_waits j w, place_waits i x) (sooner_earlier j i w.small x.small);
       }

@@ -10,11 +10,11 @@ use lib.ListN.{length, drop, get_or, drop_of_length-le}
 use lib.Seq.{drop-cons}
 use borrow.Author.Tests.{lt-ltb, le-ltb}
 use Rattle.lists.specs.Lists.{pick}
-use Rattle.tasks.specs.Table.{tableFault}
+use Rattle.tasks.specs.Table.{table_fault}
 use Rattle.tasks.specs.State.{start, improper}
 use Rattle.tasks.specs.Tick.{illegal, released, chosen, ran, after, missed, answered, ticked}
-use Rattle.tasks.specs.Answers.{replayAnswer}
-use Rattle.tasks.specs.Replay.{playNext, played, replayed, playedFrom, outcomeTick, replayTick}
+use Rattle.tasks.specs.Answers.{replay_answer}
+use Rattle.tasks.specs.Replay.{play_next, played, replayed, played_from, outcome_tick, replay_tick}
 use Rattle.tasks.specs.declared.state.State.{State}
 use Rattle.tasks.specs.declared.table.Table.{Table}
 use Rattle.tasks.specs.declared.tick.TickAnswer.{TickAnswer}
@@ -25,24 +25,24 @@ use Rattle.tasks.specs.declared.play.ReplayAnswer.TheVariants.{Played, Refused}
 use Rattle.tasks.specs.declared.play.Replayed.{Replayed}
 use Rattle.lists.proofs.Bools.{by_bool}
 use Rattle.lists.proofs.Picks.{pick_yes, pick_no}
-use Rattle.tasks.proofs.Answers.{replay-told}
-use Rattle.tasks.proofs.Proper.{start-proper}
-use Rattle.tasks.proofs.Answered.{ticked-legal, ticked-steps, ticked-illegal, ticked-proper}
+use Rattle.tasks.proofs.Answers.{replay_told}
+use Rattle.tasks.proofs.Proper.{start_proper}
+use Rattle.tasks.proofs.Answered.{ticked-legal, ticked-steps, ticked-illegal, ticked_proper}
 
-pub drop-step : (l : List ℕ) (i : ℕ) → i < length l → drop i l ≡ get_or l i 0 ∷ drop (i + 1) l
-drop-step l i h = drop-cons l i 0 h ∙ ap (λ n. get_or l i 0 ∷ drop n l) (sym (add-one i))
+pub drop_step : (l : List ℕ) (i : ℕ) → i < length l → drop i l ≡ get_or l i 0 ∷ drop (i + 1) l
+drop_step l i h = drop-cons l i 0 h ∙ ap (λ n. get_or l i 0 ∷ drop n l) (sym (add-one i))
 
 module _ (t : Table) where
   -- one tick of the play, from what the tick returned
   pub played-step :
       (s : State) {r : Ticked} {a : TickAnswer} (l : List ℕ) (i : ℕ) → i < length l → r ≡ ticked t s (get_or l i 0) → r.answer ≡ a
-      → played t s i (drop i l) ≡ playNext (i + 1) s r.state (played t r.state (i + 1) (drop (i + 1) l)) a
+      → played t s i (drop i l) ≡ play_next (i + 1) s r.state (played t r.state (i + 1) (drop (i + 1) l)) a
   unfolding played
   played-step s {r} {a} l i h e q =
-      rw (drop-step l i h, ← e) (ap (playNext (i + 1) s r.state (played t r.state (i + 1) (drop (i + 1) l))) q)
+      rw (drop_step l i h, ← e) (ap (play_next (i + 1) s r.state (played t r.state (i + 1) (drop (i + 1) l))) q)
 
   -- .. and from the steps of the tick, where the table is valid and the state proper
-  module _ (valid : tableFault t ≡ 0) (s : State) (proper : improper t s ≡ false) (l : List ℕ) (i : ℕ) (h : i < length l) where
+  module _ (valid : table_fault t ≡ 0) (s : State) (proper : improper t s ≡ false) (l : List ℕ) (i : ℕ) (h : i < length l) where
     pub played-refused :
         illegal t s (get_or l i 0) ≡ true → played t s i (drop i l) ≡ record { answer = Refused 11 (i + 1); state = s }
     played-refused bad = played-step s l i h (sym (ticked-illegal t s (get_or l i 0) valid proper bad)) refl
@@ -53,8 +53,8 @@ module _ (t : Table) where
         now : ticked t s (get_or l i 0) ≡ answered (pick (missed t next) Tick.Missed Tick.Next) next
         now = ticked-steps t s (get_or l i 0) r-is run_is next-is valid proper legal
 
-        pub played-missed : missed t next ≡ true → played t s i (drop i l) ≡ record { answer = Played (Missed (i + 1)); state = next }
-        played-missed m =
+        pub played_missed : missed t next ≡ true → played t s i (drop i l) ≡ record { answer = Played (Missed (i + 1)); state = next }
+        played_missed m =
             let e : ticked t s (get_or l i 0) ≡ answered Tick.Missed next = rw m at now in
             played-step s l i h (sym e) refl
 
@@ -62,7 +62,7 @@ module _ (t : Table) where
             missed t next ≡ false → (improper t next ≡ false) × (played t s i (drop i l) ≡ played t next (i + 1) (drop (i + 1) l))
         played-next m =
             let e : ticked t s (get_or l i 0) ≡ answered Tick.Next next = rw m at now in
-            (rw e at (ticked-proper t s (get_or l i 0) (ap (λ a. a.answer) e)), played-step s l i h (sym e) refl)
+            (rw e at (ticked_proper t s (get_or l i 0) (ap (λ a. a.answer) e)), played-step s l i h (sym e) refl)
 
   -- where no mask is left, the state is kept
   pub played-end :
@@ -72,77 +72,77 @@ module _ (t : Table) where
 
   -- a tick that is named is one of the list's
   next-tick :
-      (k n : ℕ) (s s' : State) (r : Replayed) (a : TickAnswer) → k ≤ n → replayTick r.answer ≤ n → replayTick (playNext k s s' r a).answer ≤ n
-  unfolding replayTick outcomeTick
+      (k n : ℕ) (s s' : State) (r : Replayed) (a : TickAnswer) → k ≤ n → replay_tick r.answer ≤ n → replay_tick (play_next k s s' r a).answer ≤ n
+  unfolding replay_tick outcome_tick
   next-tick k n s s' r Tick.Next h e = e
   next-tick k n s s' r Tick.Missed h e = h
   next-tick k n s s' r (Tick.Refused number) h e = h
 
-  played-tick : (s : State) (k : ℕ) (l : List ℕ) → replayTick (played t s k l).answer ≤ k + length l
-  unfolding played replayTick outcomeTick
-  played-tick s k [] = omega arith
-  played-tick s k (mask ∷ masks) =
+  played_tick : (s : State) (k : ℕ) (l : List ℕ) → replay_tick (played t s k l).answer ≤ k + length l
+  unfolding played replay_tick outcome_tick
+  played_tick s k [] = omega arith
+  played_tick s k (mask ∷ masks) =
       let s' = (ticked t s mask).state in
       next-tick (k + 1) (k + length (mask ∷ masks)) s s' (played t s' (k + 1) masks) (ticked t s mask).answer (omega arith)
-      (omega (arith, played-tick s' (k + 1) masks))
+      (omega (arith, played_tick s' (k + 1) masks))
 
   -- ---- a list played on from any state, by what is judged first
 
-  pub from-fault : (s : State) (k : ℕ) (l : List ℕ) → 0 < tableFault t → record { answer = Refused (tableFault t) 0; state = s } ≡ playedFrom t s k l
-  unfolding playedFrom
-  from-fault s k l h = pick_yes _ (lt-ltb _ _ h)
+  pub from_fault : (s : State) (k : ℕ) (l : List ℕ) → 0 < table_fault t → record { answer = Refused (table_fault t) 0; state = s } ≡ played_from t s k l
+  unfolding played_from
+  from_fault s k l h = pick_yes _ (lt-ltb _ _ h)
 
   pub from-improper :
-      (s : State) (k : ℕ) (l : List ℕ) → tableFault t ≡ 0 → improper t s ≡ true → record { answer = Refused 13 0; state = s } ≡ playedFrom t s k l
-  unfolding playedFrom
+      (s : State) (k : ℕ) (l : List ℕ) → table_fault t ≡ 0 → improper t s ≡ true → record { answer = Refused 13 0; state = s } ≡ played_from t s k l
+  unfolding played_from
   from-improper s k l valid bad = rw (valid, bad)
 
-  pub from-played : (s : State) (k : ℕ) (l : List ℕ) → tableFault t ≡ 0 → improper t s ≡ false → played t s k l ≡ playedFrom t s k l
-  unfolding playedFrom
-  from-played s k l valid proper = rw (valid, proper)
+  pub from_played : (s : State) (k : ℕ) (l : List ℕ) → table_fault t ≡ 0 → improper t s ≡ false → played t s k l ≡ played_from t s k l
+  unfolding played_from
+  from_played s k l valid proper = rw (valid, proper)
 
   -- LAW: the tick that such a play names is at most the list's last
-  pub from_tick : (s : State) (k : ℕ) (l : List ℕ) → replayTick (playedFrom t s k l).answer ≤ k + length l
-  unfolding playedFrom replayTick
+  pub from_tick : (s : State) (k : ℕ) (l : List ℕ) → replay_tick (played_from t s k l).answer ≤ k + length l
+  unfolding played_from replay_tick
   from_tick s k l =
-      by_bool (ltb 0 (tableFault t))
+      by_bool (ltb 0 (table_fault t))
       (λ e. rw e (omega arith))
-      (λ e. rw e (by_bool (improper t s) (λ b. rw b (omega arith)) (λ b. rw b (played-tick s k l))))
+      (λ e. rw e (by_bool (improper t s) (λ b. rw b (omega arith)) (λ b. rw b (played_tick s k l))))
 
   pub from-names :
-      (s : State) (l : List ℕ) {r : Replayed} → r ≡ playedFrom t s 0 l
-      → (replayAnswer r ≡ replayAnswer (playedFrom t s 0 l)) × (r.state ≡ (playedFrom t s 0 l).state) × (replayTick r.answer ≤ length l)
-  from-names s l e = ((replay-told e).0, (replay-told e).1, rw e (omega (arith, from_tick s 0 l)))
+      (s : State) (l : List ℕ) {r : Replayed} → r ≡ played_from t s 0 l
+      → (replay_answer r ≡ replay_answer (played_from t s 0 l)) × (r.state ≡ (played_from t s 0 l).state) × (replay_tick r.answer ≤ length l)
+  from-names s l e = ((replay_told e).0, (replay_told e).1, rw e (omega (arith, from_tick s 0 l)))
 
   -- ---- the replay
 
   -- LAW: a replay is played on from the start state, with no tick before
-  pub replayed-from : (l : List ℕ) → playedFrom t start 0 l ≡ replayed t l
-  unfolding playedFrom replayed
-  replayed-from l = rw (start-proper t)
+  pub replayed_from : (l : List ℕ) → played_from t start 0 l ≡ replayed t l
+  unfolding played_from replayed
+  replayed_from l = rw (start_proper t)
 
   -- LAW: the tick that a replay names is at most the list's length
-  pub replayed-tick : (l : List ℕ) → replayTick (replayed t l).answer ≤ length l
-  replayed-tick l = rw (sym (replayed-from l)) (omega (arith, from_tick start 0 l))
+  pub replayed_tick : (l : List ℕ) → replay_tick (replayed t l).answer ≤ length l
+  replayed_tick l = rw (sym (replayed_from l)) (omega (arith, from_tick start 0 l))
 
   pub replay-names :
       (l : List ℕ) {r : Replayed} → r ≡ replayed t l
-      → (replayAnswer r ≡ replayAnswer (replayed t l)) × (r.state ≡ (replayed t l).state) × (replayTick r.answer ≤ length l)
-  replay-names l e = ((replay-told e).0, (replay-told e).1, rw e (replayed-tick l))
+      → (replay_answer r ≡ replay_answer (replayed t l)) × (r.state ≡ (replayed t l).state) × (replay_tick r.answer ≤ length l)
+  replay-names l e = ((replay_told e).0, (replay_told e).1, rw e (replayed_tick l))
 
   -- a bad table is refused with the start state, and with a valid one the list is played
-  pub replayed-refused : (l : List ℕ) → 0 < tableFault t → record { answer = Refused (tableFault t) 0; state = start } ≡ replayed t l
-  replayed-refused l h = from-fault start 0 l h ∙ replayed-from l
+  pub replayed_refused : (l : List ℕ) → 0 < table_fault t → record { answer = Refused (table_fault t) 0; state = start } ≡ replayed t l
+  replayed_refused l h = from_fault start 0 l h ∙ replayed_from l
 
-  pub replayed-played : (l : List ℕ) → tableFault t ≤ 0 → played t start 0 l ≡ replayed t l
+  pub replayed_played : (l : List ℕ) → table_fault t ≤ 0 → played t start 0 l ≡ replayed t l
   unfolding replayed
-  replayed-played l h = pick_no _ (le-ltb _ _ h) refl
+  replayed_played l h = pick_no _ (le-ltb _ _ h) refl
 
   -- ---- the refusals of a play
 
-  module _ (valid : tableFault t ≡ 0) where
-    pub tick-eleven : (s : State) (mask r : ℕ) → improper t s ≡ false → (ticked t s mask).answer ≡ Tick.Refused r → r ≡ 11
-    tick-eleven s mask r proper e =
+  module _ (valid : table_fault t ≡ 0) where
+    pub tick_eleven : (s : State) (mask r : ℕ) → improper t s ≡ false → (ticked t s mask).answer ≡ Tick.Refused r → r ≡ 11
+    tick_eleven s mask r proper e =
         by_bool (illegal t s mask)
         (λ h. cc (ap (λ x. x.answer) (ticked-illegal t s mask valid proper h)))
         (λ h.
@@ -153,21 +153,21 @@ module _ (t : Table) where
 
     next-eleven :
         (k r n : ℕ) (s s' : State) (rest : Replayed) (a : TickAnswer) → ((q : ℕ) → a ≡ Tick.Refused q → q ≡ 11)
-        → (a ≡ Tick.Next → rest.answer ≡ Refused r n → r ≡ 11) → (playNext k s s' rest a).answer ≡ Refused r n → r ≡ 11
+        → (a ≡ Tick.Next → rest.answer ≡ Refused r n → r ≡ 11) → (play_next k s s' rest a).answer ≡ Refused r n → r ≡ 11
     next-eleven k r n s s' rest Tick.Next h g e = g refl e
     next-eleven k r n s s' rest Tick.Missed h g e = absurd (let z : ◌≡◌ {A = ℕ} 0 1 = cc in omega arith)
     next-eleven k r n s s' rest (Tick.Refused q) h g e = cc (h q refl)
 
-    played-eleven : (s : State) (k : ℕ) (l : List ℕ) (r n : ℕ) → improper t s ≡ false → (played t s k l).answer ≡ Refused r n → r ≡ 11
+    played_eleven : (s : State) (k : ℕ) (l : List ℕ) (r n : ℕ) → improper t s ≡ false → (played t s k l).answer ≡ Refused r n → r ≡ 11
     unfolding played
-    played-eleven s k [] r n proper e = absurd (let z : ◌≡◌ {A = ℕ} 0 1 = cc in omega arith)
-    played-eleven s k (mask ∷ masks) r n proper e =
+    played_eleven s k [] r n proper e = absurd (let z : ◌≡◌ {A = ℕ} 0 1 = cc in omega arith)
+    played_eleven s k (mask ∷ masks) r n proper e =
         let s' = (ticked t s mask).state in
-        next-eleven (k + 1) r n s s' (played t s' (k + 1) masks) (ticked t s mask).answer (λ q h. tick-eleven s mask q proper h)
-        (λ h. played-eleven s' (k + 1) masks r n (ticked-proper t s mask h))
+        next-eleven (k + 1) r n s s' (played t s' (k + 1) masks) (ticked t s mask).answer (λ q h. tick_eleven s mask q proper h)
+        (λ h. played_eleven s' (k + 1) masks r n (ticked_proper t s mask h))
         e
 
     -- LAW: with a valid table a replay is refused with 11 or not at all
-    pub replayed-eleven : (l : List ℕ) (r n : ℕ) → (replayed t l).answer ≡ Refused r n → r ≡ 11
-    replayed-eleven l r n e =
-        played-eleven start 0 l r n (start-proper t) (ap (λ x. x.answer) (replayed-played l (omega arith)) ∙ e)
+    pub replayed_eleven : (l : List ℕ) (r n : ℕ) → (replayed t l).answer ≡ Refused r n → r ≡ 11
+    replayed_eleven l r n e =
+        played_eleven start 0 l r n (start_proper t) (ap (λ x. x.answer) (replayed_played l (omega arith)) ∙ e)

@@ -10,9 +10,9 @@ use lib.ListN.{length, get_or, set, drop, length-append, length-drop, length-set
 use lib.Seq.{drop-drop, drop-append_seam, get_or-set_same, get_or-set_other, ext_get_or}
 use borrow.Author.Tests.{lt-ltb, le-ltb, ltb-true, ltb-false}
 use Rattle.lists.specs.Lists.{pick, front}
-use Rattle.tasks.specs.Table.{lastPolicy, breaks, tableFault}
-use Rattle.tasks.specs.Number.{numberBytes, number_at}
-use Rattle.tasks.specs.Sheet.{emptyTable, refusedWith, acceptedAs, field_at, and_then, task_of, taskThen, taskAt, withTask, afterTask, tasksFrom, fromTasks, fromPolicy, sheetOf, taskBytes, tasksBytes, sheetBytes}
+use Rattle.tasks.specs.Table.{last_policy, breaks, table_fault}
+use Rattle.tasks.specs.Number.{number_bytes, number_at}
+use Rattle.tasks.specs.Sheet.{empty_table, refused_with, accepted_as, field_at, and_then, task_of, task_then, task_at, with_task, after_task, tasks_from, from_tasks, from_policy, sheet_of, task_bytes, tasks_bytes, sheet_bytes}
 use Rattle.tasks.specs.declared.number.Number.{Number}
 use Rattle.tasks.specs.declared.number.Number.TheVariants.{Value, Refused}
 use Rattle.tasks.specs.declared.table.Table.{Table}
@@ -21,15 +21,15 @@ use Rattle.tasks.specs.declared.sheet.Task.{Task}
 use Rattle.tasks.specs.declared.sheet.TaskRead.{TaskRead}
 use Rattle.tasks.specs.declared.sheet.TaskRead.TheVariants as TaskRead
 use Rattle.lists.proofs.Bools.{by_bool}
-use Rattle.lists.proofs.Fill.{eight-at, front_at, front-more}
+use Rattle.lists.proofs.Fill.{eight_at, front_at, front_more}
 use Rattle.tasks.proofs.Groups.{Stands, number-stands, number_read}
-use Rattle.tasks.proofs.Fields.{field-read, field-passes}
-use Rattle.tasks.proofs.Tables.{FitTask, fit-task, task-fits, Valid, valid, not-refused}
+use Rattle.tasks.proofs.Fields.{field_read, field_passes}
+use Rattle.tasks.proofs.Tables.{FitTask, fit_task, task_fits, Valid, valid, not_refused}
 
 -- ---- what an accepted reading says
 
-not-accepted : {X : Type 0} {r : ℕ} {t : Table} → refusedWith r ≡ acceptedAs t → X
-not-accepted e =
+not_accepted : {X : Type 0} {r : ℕ} {t : Table} → refused_with r ≡ accepted_as t → X
+not_accepted e =
     let f = ap (λ (x : Sheet). x.answer) e in
     absurd (let z : ◌≡◌ {A = ℕ} 0 1 = cc in omega arith)
 
@@ -38,29 +38,29 @@ pub record Passed (x : Number) (rest : ℕ → ℕ → Sheet) (t : Table) : Type
   pub v : ℕ
   pub next : ℕ
   pub is : x ≡ Value v next
-  pub then : rest v next ≡ acceptedAs t
+  pub then : rest v next ≡ accepted_as t
 
-passed : (x : Number) (rest : ℕ → ℕ → Sheet) (t : Table) → and_then x rest ≡ acceptedAs t → Passed x rest t
+passed : (x : Number) (rest : ℕ → ℕ → Sheet) (t : Table) → and_then x rest ≡ accepted_as t → Passed x rest t
 passed (Value v next) rest t e = record { v = v; next = next; is = refl; then = e }
-passed (Refused r) rest t e = not-accepted e
+passed (Refused r) rest t e = not_accepted e
 
 -- a task was read: its three numbers stand one after the other, and fit
 pub record TaskStands (s : List ℕ) (at : ℕ) (task : Task) (next : ℕ) : Type 0 where
   pub fits : FitTask task.work task.deadline task.gap
-  pub bytes : drop at s ≡ (numberBytes task.work ++ (numberBytes task.deadline ++ numberBytes task.gap)) ++ drop next s
+  pub bytes : drop at s ≡ (number_bytes task.work ++ (number_bytes task.deadline ++ number_bytes task.gap)) ++ drop next s
 
-no-task : {X : Type 0} {r next : ℕ} {task : Task} → TaskRead.Refused r ≡ TaskRead.Read task next → X
-no-task e = absurd (let z : ◌≡◌ {A = ℕ} 0 1 = cc in omega arith)
+no_task : {X : Type 0} {r next : ℕ} {task : Task} → TaskRead.Refused r ≡ TaskRead.Read task next → X
+no_task e = absurd (let z : ◌≡◌ {A = ℕ} 0 1 = cc in omega arith)
 
-pub task-of : (work deadline gap n : ℕ) {task : Task} {next : ℕ} → task_of work deadline gap n ≡ TaskRead.Read task next
+pub task_of_lem : (work deadline gap n : ℕ) {task : Task} {next : ℕ} → task_of work deadline gap n ≡ TaskRead.Read task next
     → FitTask work deadline gap × (work ≡ task.work) × (deadline ≡ task.deadline) × (gap ≡ task.gap) × (n ≡ next)
 unfolding task_of
-task-of work deadline gap n {task} {next} e =
-    by_bool (breaks work deadline gap) (λ h. no-task (rw h at e))
+task_of_lem work deadline gap n {task} {next} e =
+    by_bool (breaks work deadline gap) (λ h. no_task (rw h at e))
     (λ h.
     let f : TaskRead.Read (record { work = work; deadline = deadline; gap = gap }) n ≡ TaskRead.Read task next = rw h at e in
     let g : ◌≡◌ {A = Task} (record { work = work; deadline = deadline; gap = gap }) task = cc in
-    (fit-task h, ap (λ (x : Task). x.work) g, ap (λ (x : Task). x.deadline) g, ap (λ (x : Task). x.gap) g, cc))
+    (fit_task h, ap (λ (x : Task). x.work) g, ap (λ (x : Task). x.deadline) g, ap (λ (x : Task). x.gap) g, cc))
 
 pub record TaskPassed (x : Number) (rest : ℕ → ℕ → TaskRead) (task : Task) (next : ℕ) : Type 0 where
   pub v : ℕ
@@ -68,9 +68,9 @@ pub record TaskPassed (x : Number) (rest : ℕ → ℕ → TaskRead) (task : Tas
   pub is : x ≡ Value v at
   pub then : rest v at ≡ TaskRead.Read task next
 
-pub task-passed : (x : Number) (rest : ℕ → ℕ → TaskRead) (task : Task) (next : ℕ) → taskThen x rest ≡ TaskRead.Read task next → TaskPassed x rest task next
-task-passed (Value v at) rest task next e = record { v = v; at = at; is = refl; then = e }
-task-passed (Refused r) rest task next e = no-task e
+pub task_passed : (x : Number) (rest : ℕ → ℕ → TaskRead) (task : Task) (next : ℕ) → task_then x rest ≡ TaskRead.Read task next → TaskPassed x rest task next
+task_passed (Value v at) rest task next e = record { v = v; at = at; is = refl; then = e }
+task_passed (Refused r) rest task next e = no_task e
 
 -- three numbers, one after the other
 three :
@@ -81,18 +81,18 @@ three s at C a D b P n task next f c d p e x y z =
       fits = rw (← c, ← d, ← p) f;
       bytes =
           rw (← c, ← d, ← p, ← e)
-          (x.bytes ∙ ap (λ l. numberBytes C ++ l) (y.bytes ∙ ap (λ l. numberBytes D ++ l) z.bytes)
-          ∙ sym (append_assoc (numberBytes C) (numberBytes D ++ numberBytes P) (drop n s) ∙ ap (λ l. numberBytes C ++ l) (append_assoc (numberBytes D) (numberBytes P) (drop n s))));
+          (x.bytes ∙ ap (λ l. number_bytes C ++ l) (y.bytes ∙ ap (λ l. number_bytes D ++ l) z.bytes)
+          ∙ sym (append_assoc (number_bytes C) (number_bytes D ++ number_bytes P) (drop n s) ∙ ap (λ l. number_bytes C ++ l) (append_assoc (number_bytes D) (number_bytes P) (drop n s))));
     }
 
 module _ (s : List ℕ) (byte : (i : ℕ) → get_or s i 0 < 256) where
-  task-stands : (at : ℕ) (task : Task) (next : ℕ) → taskAt s at ≡ TaskRead.Read task next → TaskStands s at task next
-  unfolding taskAt
-  task-stands at task next e =
-      let a = task-passed (number_at s at) (λ work a. taskThen (number_at s a) (λ deadline b. taskThen (number_at s b) (λ gap next. task_of work deadline gap next))) task next e in
-      let b = task-passed (number_at s a.at) (λ deadline b. taskThen (number_at s b) (λ gap next. task_of a.v deadline gap next)) task next a.then in
-      let c = task-passed (number_at s b.at) (λ gap next. task_of a.v b.v gap next) task next b.then in
-      let d = task-of a.v b.v c.v c.at c.then in
+  task_stands : (at : ℕ) (task : Task) (next : ℕ) → task_at s at ≡ TaskRead.Read task next → TaskStands s at task next
+  unfolding task_at
+  task_stands at task next e =
+      let a = task_passed (number_at s at) (λ work a. task_then (number_at s a) (λ deadline b. task_then (number_at s b) (λ gap next. task_of work deadline gap next))) task next e in
+      let b = task_passed (number_at s a.at) (λ deadline b. task_then (number_at s b) (λ gap next. task_of a.v deadline gap next)) task next a.then in
+      let c = task_passed (number_at s b.at) (λ gap next. task_of a.v b.v gap next) task next b.then in
+      let d = task_of_lem a.v b.v c.v c.at c.then in
       three s at a.v a.at b.v b.at c.v c.at task next d.0 d.1 d.2 d.3 d.4
       (number-stands s byte at a.v a.at a.is)
       (number-stands s byte a.at b.v b.at b.is)
@@ -112,12 +112,12 @@ pub record Eight (t : Table) : Type 0 where
   pub deadline : length t.deadline ≡ 8
   pub gap : length t.gap ≡ 8
 
-empty-eight : (policy m n : ℕ) → Eight (emptyTable policy m n)
-empty-eight policy m n = record { work = refl; deadline = refl; gap = refl }
+empty_eight : (policy m n : ℕ) → Eight (empty_table policy m n)
+empty_eight policy m n = record { work = refl; deadline = refl; gap = refl }
 
 -- k tasks more, from task i on, were read after those of t, and gave u
 pub record TasksRead (k i : ℕ) (t u : Table) (s : List ℕ) (at : ℕ) : Type 0 where
-  pub bytes : drop at s ≡ tasksBytes u k i
+  pub bytes : drop at s ≡ tasks_bytes u k i
   pub policy : t.policy ≡ u.policy
   pub m : t.m ≡ u.m
   pub n : t.n ≡ u.n
@@ -126,17 +126,17 @@ pub record TasksRead (k i : ℕ) (t u : Table) (s : List ℕ) (at : ℕ) : Type 
   pub later : (j : ℕ) → i + k ≤ j → Same t u j
   pub len : Eight u
 
-set-eight : (t : Table) (i : ℕ) (task : Task) → Eight t → Eight (withTask t i task)
-unfolding withTask
-set-eight t i task e =
+set_eight : (t : Table) (i : ℕ) (task : Task) → Eight t → Eight (with_task t i task)
+unfolding with_task
+set_eight t i task e =
     record {
       work = length-set t.work i task.work ∙ e.work;
       deadline = length-set t.deadline i task.deadline ∙ e.deadline;
       gap = length-set t.gap i task.gap ∙ e.gap;
     }
 
-set_other : (t : Table) (i : ℕ) (task : Task) (j : ℕ) → (j ≡ i → ⊥) → Same (withTask t i task) t j
-unfolding withTask
+set_other : (t : Table) (i : ℕ) (task : Task) (j : ℕ) → (j ≡ i → ⊥) → Same (with_task t i task) t j
+unfolding with_task
 set_other t i task j d =
     record {
       work = get_or-set_other t.work i j task.work 0 d;
@@ -150,60 +150,60 @@ pub record Entry (t : Table) (j : ℕ) (task : Task) : Type 0 where
   pub deadline : get_or t.deadline j 0 ≡ task.deadline
   pub gap : get_or t.gap j 0 ≡ task.gap
 
-set-entry : (t : Table) (i : ℕ) (task : Task) → Eight t → i < 8 → Entry (withTask t i task) i task
-unfolding withTask
-set-entry t i task e h =
+set_entry : (t : Table) (i : ℕ) (task : Task) → Eight t → i < 8 → Entry (with_task t i task) i task
+unfolding with_task
+set_entry t i task e h =
     record {
       work = get_or-set_same t.work i task.work 0 (omega (arith, e.work));
       deadline = get_or-set_same t.deadline i task.deadline 0 (omega (arith, e.deadline));
       gap = get_or-set_same t.gap i task.gap 0 (omega (arith, e.gap));
     }
 
-same-trans : {t u v : Table} {j : ℕ} → Same t u j → Same u v j → Same t v j
-same-trans a b = record { work = a.work ∙ b.work; deadline = a.deadline ∙ b.deadline; gap = a.gap ∙ b.gap }
+same_trans : {t u v : Table} {j : ℕ} → Same t u j → Same u v j → Same t v j
+same_trans a b = record { work = a.work ∙ b.work; deadline = a.deadline ∙ b.deadline; gap = a.gap ∙ b.gap }
 
-same-sym : {t u : Table} {j : ℕ} → Same t u j → Same u t j
-same-sym a = record { work = sym a.work; deadline = sym a.deadline; gap = sym a.gap }
+same_sym : {t u : Table} {j : ℕ} → Same t u j → Same u t j
+same_sym a = record { work = sym a.work; deadline = sym a.deadline; gap = sym a.gap }
 
 same_refl : (t : Table) (j : ℕ) → Same t t j
 same_refl t j = record { work = refl; deadline = refl; gap = refl }
 
-entry-same : {t u : Table} {j : ℕ} {task : Task} → Same t u j → Entry t j task → Entry u j task
-entry-same a e = record { work = sym a.work ∙ e.work; deadline = sym a.deadline ∙ e.deadline; gap = sym a.gap ∙ e.gap }
+entry_same : {t u : Table} {j : ℕ} {task : Task} → Same t u j → Entry t j task → Entry u j task
+entry_same a e = record { work = sym a.work ∙ e.work; deadline = sym a.deadline ∙ e.deadline; gap = sym a.gap ∙ e.gap }
 
-entry-bytes : {t : Table} {j : ℕ} {task : Task} → Entry t j task → numberBytes task.work ++ (numberBytes task.deadline ++ numberBytes task.gap) ≡ taskBytes t j
-unfolding taskBytes
-entry-bytes {t} {j} {task} e = rw (e.work, e.deadline, e.gap)
+entry_bytes : {t : Table} {j : ℕ} {task : Task} → Entry t j task → number_bytes task.work ++ (number_bytes task.deadline ++ number_bytes task.gap) ≡ task_bytes t j
+unfolding task_bytes
+entry_bytes {t} {j} {task} e = rw (e.work, e.deadline, e.gap)
 
-entry-fits : {t : Table} {j : ℕ} {task : Task} → Entry t j task → FitTask task.work task.deadline task.gap → FitTask (get_or t.work j 0) (get_or t.deadline j 0) (get_or t.gap j 0)
-entry-fits e f = rw (e.work, e.deadline, e.gap) f
+entry_fits : {t : Table} {j : ℕ} {task : Task} → Entry t j task → FitTask task.work task.deadline task.gap → FitTask (get_or t.work j 0) (get_or t.deadline j 0) (get_or t.gap j 0)
+entry_fits e f = rw (e.work, e.deadline, e.gap) f
 
 -- one task more
 tasks-more :
-    (k i : ℕ) (t u : Table) (s : List ℕ) (at : ℕ) (task : Task) (next : ℕ) → Eight t → i < 8 → TaskStands s at task next → TasksRead k (i + 1) (withTask t i task) u s next
+    (k i : ℕ) (t u : Table) (s : List ℕ) (at : ℕ) (task : Task) (next : ℕ) → Eight t → i < 8 → TaskStands s at task next → TasksRead k (i + 1) (with_task t i task) u s next
     → TasksRead (suc k) i t u s at
-unfolding tasksBytes withTask
+unfolding tasks_bytes with_task
 tasks-more k i t u s at task next e h x r =
-    let entry : Entry u i task = entry-same (r.earlier i (omega arith)) (set-entry t i task e h) in
+    let entry : Entry u i task = entry_same (r.earlier i (omega arith)) (set_entry t i task e h) in
     record {
-      bytes = x.bytes ∙ ap₂ (λ a b. a ++ b) (entry-bytes entry) r.bytes;
+      bytes = x.bytes ∙ ap₂ (λ a b. a ++ b) (entry_bytes entry) r.bytes;
       policy = r.policy;
       m = r.m;
       n = r.n;
-      earlier = λ j l. same-trans (same-sym (set_other t i task j (λ q. omega arith))) (r.earlier j (omega arith));
+      earlier = λ j l. same_trans (same_sym (set_other t i task j (λ q. omega arith))) (r.earlier j (omega arith));
       each = λ j a b. elim (ℕ_discrete j i) [
-        | yes q ↦ rw q (entry-fits entry x.fits)
+        | yes q ↦ rw q (entry_fits entry x.fits)
         | no q ↦ r.each j (omega arith) (omega arith)
       ];
-      later = λ j l. same-trans (same-sym (set_other t i task j (λ q. omega arith))) (r.later j (omega arith));
+      later = λ j l. same_trans (same_sym (set_other t i task j (λ q. omega arith))) (r.later j (omega arith));
       len = r.len;
     }
 
 module _ (s : List ℕ) (byte : (i : ℕ) → get_or s i 0 < 256) where
-  tasks-read : (k i : ℕ) (t u : Table) (at : ℕ) → Eight t → i + k ≤ 8 → tasksFrom k i t s at ≡ acceptedAs u → TasksRead k i t u s at
-  unfolding tasksFrom tasksBytes
-  tasks-read zero i t u at e h q =
-      by_bool (ltb at (length s)) (λ l. not-accepted (rw l at q))
+  tasks_read : (k i : ℕ) (t u : Table) (at : ℕ) → Eight t → i + k ≤ 8 → tasks_from k i t s at ≡ accepted_as u → TasksRead k i t u s at
+  unfolding tasks_from tasks_bytes
+  tasks_read zero i t u at e h q =
+      by_bool (ltb at (length s)) (λ l. not_accepted (rw l at q))
       (λ l.
       let same : t ≡ u = ap (λ (x : Sheet). x.table) (rw l at q) in
       rw (← same)
@@ -217,29 +217,29 @@ module _ (s : List ℕ) (byte : (i : ℕ) → get_or s i 0 < 256) where
         later = λ j l. same_refl t j;
         len = e;
       }))
-  tasks-read (suc k) i t u at e h q = go (taskAt s at) refl q (λ t next. tasks-read k (i + 1) t u next)
+  tasks_read (suc k) i t u at e h q = go (task_at s at) refl q (λ t next. tasks_read k (i + 1) t u next)
     where
       go :
-          (r : TaskRead) → taskAt s at ≡ r → afterTask r (λ task next. tasksFrom k (i + 1) (withTask t i task) s next) ≡ acceptedAs u
-          → ((t : Table) (next : ℕ) → Eight t → i + 1 + k ≤ 8 → tasksFrom k (i + 1) t s next ≡ acceptedAs u → TasksRead k (i + 1) t u s next) → TasksRead (suc k) i t u s at
-      go (TaskRead.Refused r) p f more = not-accepted f
+          (r : TaskRead) → task_at s at ≡ r → after_task r (λ task next. tasks_from k (i + 1) (with_task t i task) s next) ≡ accepted_as u
+          → ((t : Table) (next : ℕ) → Eight t → i + 1 + k ≤ 8 → tasks_from k (i + 1) t s next ≡ accepted_as u → TasksRead k (i + 1) t u s next) → TasksRead (suc k) i t u s at
+      go (TaskRead.Refused r) p f more = not_accepted f
       go (TaskRead.Read task next) p f more =
-          tasks-more k i t u s at task next e (omega arith) (task-stands s byte at task next p)
-          (more (withTask t i task) next (set-eight t i task e) (omega arith) f)
+          tasks-more k i t u s at task next e (omega arith) (task_stands s byte at task next p)
+          (more (with_task t i task) next (set_eight t i task e) (omega arith) f)
 
 -- ---- an accepted sheet
 
 -- the table is valid, and the sheet is its sheet
 pub record Accepted (s : List ℕ) (t : Table) : Type 0 where
   pub valid : Valid t
-  pub bytes : sheetBytes t ≡ s
+  pub bytes : sheet_bytes t ≡ s
   pub len : Eight t
 
 -- the numbers before the tasks, and the tasks
 whole :
-    (s : List ℕ) (t : Table) (a policy b m c n d : ℕ) → Stands s 0 3 a → policy ≤ lastPolicy → Stands s a policy b → (1 ≤ m) × (m ≤ 8) → Stands s b m c → (1 ≤ n) × (n ≤ 8) → Stands s c n d
-    → TasksRead n 0 (emptyTable policy m n) t s d → Accepted s t
-unfolding sheetBytes
+    (s : List ℕ) (t : Table) (a policy b m c n d : ℕ) → Stands s 0 3 a → policy ≤ last_policy → Stands s a policy b → (1 ≤ m) × (m ≤ 8) → Stands s b m c → (1 ≤ n) × (n ≤ 8) → Stands s c n d
+    → TasksRead n 0 (empty_table policy m n) t s d → Accepted s t
+unfolding sheet_bytes
 whole s t a policy b m c n d x p y q z r w tasks =
     record {
       valid =
@@ -250,33 +250,33 @@ whole s t a policy b m c n d x p y q z r w tasks =
             each = λ i h. tasks.each i (omega arith) (omega (arith, tasks.n));
             rest = λ i h l.
                 let e = tasks.later i (omega (arith, tasks.n)) in
-                let zero-at = eight-at {A = ℕ} 0 (λ i. 0) i l in
+                let zero-at = eight_at {A = ℕ} 0 (λ i. 0) i l in
                 (sym e.work ∙ zero-at, sym e.deadline ∙ zero-at, sym e.gap ∙ zero-at);
           };
       bytes =
           sym
           (x.bytes
-          ∙ ap (λ l. numberBytes 3 ++ l)
+          ∙ ap (λ l. number_bytes 3 ++ l)
           (y.bytes
-          ∙ ap₂ (λ v l. numberBytes v ++ l) tasks.policy
+          ∙ ap₂ (λ v l. number_bytes v ++ l) tasks.policy
           (z.bytes
-          ∙ ap₂ (λ v l. numberBytes v ++ l) tasks.m
-          (w.bytes ∙ ap₂ (λ v l. numberBytes v ++ l) tasks.n (tasks.bytes ∙ ap (λ k. tasksBytes t k 0) tasks.n)))));
+          ∙ ap₂ (λ v l. number_bytes v ++ l) tasks.m
+          (w.bytes ∙ ap₂ (λ v l. number_bytes v ++ l) tasks.n (tasks.bytes ∙ ap (λ k. tasks_bytes t k 0) tasks.n)))));
       len = tasks.len;
     }
 
 module _ (s : List ℕ) (byte : (i : ℕ) → get_or s i 0 < 256) where
-  pub accepted : (t : Table) → sheetOf s ≡ acceptedAs t → Accepted s t
-  unfolding sheetOf fromPolicy fromTasks
+  pub accepted : (t : Table) → sheet_of s ≡ accepted_as t → Accepted s t
+  unfolding sheet_of from_policy from_tasks
   accepted t e =
-      let a = passed (field_at s 0 3 3 3) (λ fields. fromPolicy s) t e in
-      let b = passed (field_at s a.next 0 lastPolicy 4) (λ policy b. and_then (field_at s b 1 8 5) (λ m c. and_then (field_at s c 1 8 6) (λ n d. fromTasks s policy m n d))) t a.then in
-      let c = passed (field_at s b.next 1 8 5) (λ m c. and_then (field_at s c 1 8 6) (λ n d. fromTasks s b.v m n d)) t b.then in
-      let d = passed (field_at s c.next 1 8 6) (λ n d. fromTasks s b.v c.v n d) t c.then in
-      let A = field-read s 0 3 3 3 {v = a.v} {next = a.next} a.is in
-      let B = field-read s a.next 0 lastPolicy 4 {v = b.v} {next = b.next} b.is in
-      let C = field-read s b.next 1 8 5 {v = c.v} {next = c.next} c.is in
-      let D = field-read s c.next 1 8 6 {v = d.v} {next = d.next} d.is in
+      let a = passed (field_at s 0 3 3 3) (λ fields. from_policy s) t e in
+      let b = passed (field_at s a.next 0 last_policy 4) (λ policy b. and_then (field_at s b 1 8 5) (λ m c. and_then (field_at s c 1 8 6) (λ n d. from_tasks s policy m n d))) t a.then in
+      let c = passed (field_at s b.next 1 8 5) (λ m c. and_then (field_at s c 1 8 6) (λ n d. from_tasks s b.v m n d)) t b.then in
+      let d = passed (field_at s c.next 1 8 6) (λ n d. from_tasks s b.v c.v n d) t c.then in
+      let A = field_read s 0 3 3 3 {v = a.v} {next = a.next} a.is in
+      let B = field_read s a.next 0 last_policy 4 {v = b.v} {next = b.next} b.is in
+      let C = field_read s b.next 1 8 5 {v = c.v} {next = c.next} c.is in
+      let D = field_read s c.next 1 8 6 {v = d.v} {next = d.next} d.is in
       let three-is : a.v ≡ 3 = omega (arith, A.from, A.upto) in
       whole s t a.next b.v b.next c.v c.next d.v d.next
       (number-stands s byte 0 3 a.next (A.number ∙ ap (λ v. Value v a.next) three-is))
@@ -286,21 +286,21 @@ module _ (s : List ℕ) (byte : (i : ℕ) → get_or s i 0 < 256) where
       (number-stands s byte b.next c.v c.next C.number)
       (D.from, D.upto)
       (number-stands s byte c.next d.v d.next D.number)
-      (tasks-read s byte d.v 0 (emptyTable b.v c.v d.v) t d.next (empty-eight b.v c.v d.v) (omega (arith, D.upto)) d.then)
+      (tasks_read s byte d.v 0 (empty_table b.v c.v d.v) t d.next (empty_eight b.v c.v d.v) (omega (arith, D.upto)) d.then)
 
   -- an accepted sheet read and written has the same bytes
-  pub read-write : (t : Table) → sheetOf s ≡ acceptedAs t → sheetBytes t ≡ s
-  read-write t e = (accepted t e).bytes
+  pub read_write : (t : Table) → sheet_of s ≡ accepted_as t → sheet_bytes t ≡ s
+  read_write t e = (accepted t e).bytes
 
   -- the table of an accepted sheet is valid
-  pub read-valid : (t : Table) → sheetOf s ≡ acceptedAs t → tableFault t ≡ 0
-  read-valid t e = not-refused t (accepted t e).valid
+  pub read_valid : (t : Table) → sheet_of s ≡ accepted_as t → table_fault t ≡ 0
+  read_valid t e = not_refused t (accepted t e).valid
 
 -- ---- the sheet of a valid table
 
 -- what follows a part
-after-part : (s : List ℕ) (at : ℕ) (a rest : List ℕ) → drop at s ≡ a ++ rest → drop (at + length a) s ≡ rest
-after-part s at a rest e = sym (drop-drop (length a) at s) ∙ ap (drop (length a)) e ∙ drop-append_seam a rest
+after_part : (s : List ℕ) (at : ℕ) (a rest : List ℕ) → drop at s ≡ a ++ rest → drop (at + length a) s ≡ rest
+after_part s at a rest e = sym (drop-drop (length a) at s) ∙ ap (drop (length a)) e ∙ drop-append_seam a rest
 
 -- the entries of l below i, and then zeros
 abbrev cut : List ℕ → ℕ → List ℕ
@@ -329,21 +329,21 @@ firsts t i =
 entry : Table → ℕ → Task
 entry t i = record { work = get_or t.work i 0; deadline = get_or t.deadline i 0; gap = get_or t.gap i 0 }
 
-firsts_more : (t : Table) (i : ℕ) → i < 8 → withTask (firsts t i) i (entry t i) ≡ firsts t (i + 1)
-unfolding firsts entry withTask
+firsts_more : (t : Table) (i : ℕ) → i < 8 → with_task (firsts t i) i (entry t i) ≡ firsts t (i + 1)
+unfolding firsts entry with_task
 firsts_more t i h = λ k.
     record {
       policy = t.policy;
       m = t.m;
       n = t.n;
-      work = front-more (λ j. get_or t.work j 0) i h k;
-      deadline = front-more (λ j. get_or t.deadline j 0) i h k;
-      gap = front-more (λ j. get_or t.gap j 0) i h k;
+      work = front_more (λ j. get_or t.work j 0) i h k;
+      deadline = front_more (λ j. get_or t.deadline j 0) i h k;
+      gap = front_more (λ j. get_or t.gap j 0) i h k;
     }
 
-firsts-all : (t : Table) → Eight t → Valid t → firsts t t.n ≡ t
+firsts_all : (t : Table) → Eight t → Valid t → firsts t t.n ≡ t
 unfolding firsts
-firsts-all t e v = λ k.
+firsts_all t e v = λ k.
     record {
       policy = t.policy;
       m = t.m;
@@ -355,62 +355,62 @@ firsts-all t e v = λ k.
 
 -- the task that stands at a place is read
 task-read :
-    (s : List ℕ) (at : ℕ) (t : Table) (i : ℕ) (rest : List ℕ) → FitTask (get_or t.work i 0) (get_or t.deadline i 0) (get_or t.gap i 0) → drop at s ≡ taskBytes t i ++ rest
-    → taskAt s at ≡ TaskRead.Read (entry t i) (at + length (taskBytes t i))
-unfolding taskAt task_of taskBytes entry
+    (s : List ℕ) (at : ℕ) (t : Table) (i : ℕ) (rest : List ℕ) → FitTask (get_or t.work i 0) (get_or t.deadline i 0) (get_or t.gap i 0) → drop at s ≡ task_bytes t i ++ rest
+    → task_at s at ≡ TaskRead.Read (entry t i) (at + length (task_bytes t i))
+unfolding task_at task_of task_bytes entry
 task-read s at t i rest f e =
     let C = get_or t.work i 0 in
     let D = get_or t.deadline i 0 in
     let P = get_or t.gap i 0 in
     let small : (C < 16384) × (D < 16384) × (P < 16384) = (omega (arith, f.order, f.close, f.short), omega (arith, f.close, f.short), omega (arith, f.short)) in
-    let e₁ : drop at s ≡ numberBytes C ++ ((numberBytes D ++ numberBytes P) ++ rest) = e ∙ append_assoc (numberBytes C) (numberBytes D ++ numberBytes P) rest in
-    let e₂ : drop (at + length (numberBytes C)) s ≡ numberBytes D ++ (numberBytes P ++ rest) =
-    after-part s at (numberBytes C) ((numberBytes D ++ numberBytes P) ++ rest) e₁ ∙ append_assoc (numberBytes D) (numberBytes P) rest in
-    let e₃ : drop (at + length (numberBytes C) + length (numberBytes D)) s ≡ numberBytes P ++ rest =
-    after-part s (at + length (numberBytes C)) (numberBytes D) (numberBytes P ++ rest) e₂ in
-    let ends : at + length (numberBytes C) + length (numberBytes D) + length (numberBytes P) ≡ at + length (numberBytes C ++ (numberBytes D ++ numberBytes P)) =
-    omega (arith, length-append (numberBytes C) (numberBytes D ++ numberBytes P), length-append (numberBytes D) (numberBytes P)) in
+    let e₁ : drop at s ≡ number_bytes C ++ ((number_bytes D ++ number_bytes P) ++ rest) = e ∙ append_assoc (number_bytes C) (number_bytes D ++ number_bytes P) rest in
+    let e₂ : drop (at + length (number_bytes C)) s ≡ number_bytes D ++ (number_bytes P ++ rest) =
+    after_part s at (number_bytes C) ((number_bytes D ++ number_bytes P) ++ rest) e₁ ∙ append_assoc (number_bytes D) (number_bytes P) rest in
+    let e₃ : drop (at + length (number_bytes C) + length (number_bytes D)) s ≡ number_bytes P ++ rest =
+    after_part s (at + length (number_bytes C)) (number_bytes D) (number_bytes P ++ rest) e₂ in
+    let ends : at + length (number_bytes C) + length (number_bytes D) + length (number_bytes P) ≡ at + length (number_bytes C ++ (number_bytes D ++ number_bytes P)) =
+    omega (arith, length-append (number_bytes C) (number_bytes D ++ number_bytes P), length-append (number_bytes D) (number_bytes P)) in
     rw
-    (number_read C small.0 s at ((numberBytes D ++ numberBytes P) ++ rest) e₁, number_read D small.1 s (at + length (numberBytes C)) (numberBytes P ++ rest) e₂, number_read P small.2 s (at + length (numberBytes C) + length (numberBytes D)) rest e₃, task-fits f)
+    (number_read C small.0 s at ((number_bytes D ++ number_bytes P) ++ rest) e₁, number_read D small.1 s (at + length (number_bytes C)) (number_bytes P ++ rest) e₂, number_read P small.2 s (at + length (number_bytes C) + length (number_bytes D)) rest e₃, task_fits f)
     (ap (λ n. TaskRead.Read (record { work = C; deadline = D; gap = P }) n) ends)
 
 module _ (t : Table) (e : Eight t) (v : Valid t) (s : List ℕ) where
-  tasks-written : (k i at : ℕ) → i + k ≡ t.n → drop at s ≡ tasksBytes t k i → tasksFrom k i (firsts t i) s at ≡ acceptedAs t
-  unfolding tasksFrom tasksBytes
-  tasks-written zero i at h q =
+  tasks_written : (k i at : ℕ) → i + k ≡ t.n → drop at s ≡ tasks_bytes t k i → tasks_from k i (firsts t i) s at ≡ accepted_as t
+  unfolding tasks_from tasks_bytes
+  tasks_written zero i at h q =
       let over : length s ≤ at = omega (arith, length-drop at s, ap length q) in
       let all : i ≡ t.n = omega arith in
-      rw (le-ltb at (length s) over) (ap acceptedAs (ap (firsts t) all ∙ firsts-all t e v))
-  tasks-written (suc k) i at h q =
+      rw (le-ltb at (length s) over) (ap accepted_as (ap (firsts t) all ∙ firsts_all t e v))
+  tasks_written (suc k) i at h q =
       let i8 : i < 8 = omega (arith, v.tasks.1) in
-      let read = task-read s at t i (tasksBytes t k (i + 1)) (v.each i (omega arith)) q in
+      let read = task-read s at t i (tasks_bytes t k (i + 1)) (v.each i (omega arith)) q in
       rw (read, firsts_more t i i8)
-      (tasks-written k (i + 1) (at + length (taskBytes t i)) (omega arith) (after-part s at (taskBytes t i) (tasksBytes t k (i + 1)) q))
+      (tasks_written k (i + 1) (at + length (task_bytes t i)) (omega arith) (after_part s at (task_bytes t i) (tasks_bytes t k (i + 1)) q))
 
 -- a number that stands at a place and keeps its rule is read
 field-stands :
-    (s : List ℕ) (at low high r x : ℕ) (rest : List ℕ) → low ≤ x → x ≤ high → high ≤ 8 → drop at s ≡ numberBytes x ++ rest
-    → field_at s at low high r ≡ Value x (at + length (numberBytes x))
+    (s : List ℕ) (at low high r x : ℕ) (rest : List ℕ) → low ≤ x → x ≤ high → high ≤ 8 → drop at s ≡ number_bytes x ++ rest
+    → field_at s at low high r ≡ Value x (at + length (number_bytes x))
 field-stands s at low high r x rest l h b e =
-    field-passes (record { number = number_read x (omega arith) s at rest e; from = l; upto = h }) r
+    field_passes (record { number = number_read x (omega arith) s at rest e; from = l; upto = h }) r
 
 -- a valid table written and read is the same table
-pub write_read : (t : Table) → Eight t → tableFault t ≡ 0 → sheetOf (sheetBytes t) ≡ acceptedAs t
-unfolding sheetOf fromPolicy fromTasks sheetBytes firsts
+pub write_read : (t : Table) → Eight t → table_fault t ≡ 0 → sheet_of (sheet_bytes t) ≡ accepted_as t
+unfolding sheet_of from_policy from_tasks sheet_bytes firsts
 write_read t e f =
     let v = valid t f in
-    let W = tasksBytes t t.n 0 in
-    let Z = numberBytes t.n ++ W in
-    let Y = numberBytes t.m ++ Z in
-    let X = numberBytes t.policy ++ Y in
-    let s = numberBytes 3 ++ X in
-    let e₁ : drop (0 + length (numberBytes 3)) s ≡ X = after-part s 0 (numberBytes 3) X refl in
-    let e₂ : drop (0 + length (numberBytes 3) + length (numberBytes t.policy)) s ≡ Y =
-    after-part s (0 + length (numberBytes 3)) (numberBytes t.policy) Y e₁ in
-    let e₃ : drop (0 + length (numberBytes 3) + length (numberBytes t.policy) + length (numberBytes t.m)) s ≡ Z =
-    after-part s (0 + length (numberBytes 3) + length (numberBytes t.policy)) (numberBytes t.m) Z e₂ in
-    let e₄ : drop (0 + length (numberBytes 3) + length (numberBytes t.policy) + length (numberBytes t.m) + length (numberBytes t.n)) s ≡ W =
-    after-part s (0 + length (numberBytes 3) + length (numberBytes t.policy) + length (numberBytes t.m)) (numberBytes t.n) W e₃ in
+    let W = tasks_bytes t t.n 0 in
+    let Z = number_bytes t.n ++ W in
+    let Y = number_bytes t.m ++ Z in
+    let X = number_bytes t.policy ++ Y in
+    let s = number_bytes 3 ++ X in
+    let e₁ : drop (0 + length (number_bytes 3)) s ≡ X = after_part s 0 (number_bytes 3) X refl in
+    let e₂ : drop (0 + length (number_bytes 3) + length (number_bytes t.policy)) s ≡ Y =
+    after_part s (0 + length (number_bytes 3)) (number_bytes t.policy) Y e₁ in
+    let e₃ : drop (0 + length (number_bytes 3) + length (number_bytes t.policy) + length (number_bytes t.m)) s ≡ Z =
+    after_part s (0 + length (number_bytes 3) + length (number_bytes t.policy)) (number_bytes t.m) Z e₂ in
+    let e₄ : drop (0 + length (number_bytes 3) + length (number_bytes t.policy) + length (number_bytes t.m) + length (number_bytes t.n)) s ≡ W =
+    after_part s (0 + length (number_bytes 3) + length (number_bytes t.policy) + length (number_bytes t.m)) (number_bytes t.n) W e₃ in
     rw
-    (field-stands s 0 3 3 3 3 X (omega arith) (omega arith) (omega arith) refl, field-stands s (0 + length (numberBytes 3)) 0 lastPolicy 4 t.policy Y (omega arith) v.policy (omega arith) e₁, field-stands s (0 + length (numberBytes 3) + length (numberBytes t.policy)) 1 8 5 t.m Z v.processors.0 v.processors.1 (omega arith) e₂, field-stands s (0 + length (numberBytes 3) + length (numberBytes t.policy) + length (numberBytes t.m)) 1 8 6 t.n W v.tasks.0 v.tasks.1 (omega arith) e₃)
-    (tasks-written t e v s t.n 0 (0 + length (numberBytes 3) + length (numberBytes t.policy) + length (numberBytes t.m) + length (numberBytes t.n)) (omega arith) e₄)
+    (field-stands s 0 3 3 3 3 X (omega arith) (omega arith) (omega arith) refl, field-stands s (0 + length (number_bytes 3)) 0 last_policy 4 t.policy Y (omega arith) v.policy (omega arith) e₁, field-stands s (0 + length (number_bytes 3) + length (number_bytes t.policy)) 1 8 5 t.m Z v.processors.0 v.processors.1 (omega arith) e₂, field-stands s (0 + length (number_bytes 3) + length (number_bytes t.policy) + length (number_bytes t.m)) 1 8 6 t.n W v.tasks.0 v.tasks.1 (omega arith) e₃)
+    (tasks_written t e v s t.n 0 (0 + length (number_bytes 3) + length (number_bytes t.policy) + length (number_bytes t.m) + length (number_bytes t.n)) (omega arith) e₄)

@@ -6,11 +6,11 @@ use native.Mathlib.Omega.{arith}
 use lib.ListN.{length, set, length-append}
 use lib.Seq.{sets, length-sets}
 
-sets-append : (a b l : List ℕ) (i : ℕ) → sets l i (a ++ b) ≡ sets (sets l i a) (i + length a) b
-sets-append [] b l i = let e : i ≡ i + 0 = omega arith in ap (λ j. sets l j b) e
-sets-append (x ∷ a) b l i =
+sets_append : (a b l : List ℕ) (i : ℕ) → sets l i (a ++ b) ≡ sets (sets l i a) (i + length a) b
+sets_append [] b l i = let e : i ≡ i + 0 = omega arith in ap (λ j. sets l j b) e
+sets_append (x ∷ a) b l i =
     let e : suc i + length a ≡ i + suc (length a) = omega arith in
-    sets-append a b (set l i x) (suc i) ∙ ap (λ j. sets (sets (set l i x) (suc i) a) j b) e
+    sets_append a b (set l i x) (suc i) ∙ ap (λ j. sets (sets (set l i x) (suc i) a) j b) e
 
 -- of `whole`, to be stored in `old` from the place `from` on, `rest` is left, and `out` is what is stored so far
 pub record Storing (old : List ℕ) (from : ℕ) (whole out : List ℕ) (at : ℕ) (rest : List ℕ) : Type 0 where
@@ -19,31 +19,31 @@ pub record Storing (old : List ℕ) (from : ℕ) (whole out : List ℕ) (at : �
   pub len : length out ≡ length old
   pub room : from + length whole ≤ length old
 
-pub storing-start : (old : List ℕ) (from : ℕ) (whole : List ℕ) → from + length whole ≤ length old → Storing old from whole old from whole
-storing-start old from whole h = record { stored = refl; place = refl; len = refl; room = h }
+pub storing_start : (old : List ℕ) (from : ℕ) (whole : List ℕ) → from + length whole ≤ length old → Storing old from whole old from whole
+storing_start old from whole h = record { stored = refl; place = refl; len = refl; room = h }
 
 module _ {old : List ℕ} {from : ℕ} {whole out : List ℕ} {at : ℕ} where
-  pub storing-room : (a rest : List ℕ) → Storing old from whole out at (a ++ rest) → at + length a ≤ length out
-  storing-room a rest s = omega (arith, s.place, s.len, s.room, length-append a rest)
+  pub storing_room : (a rest : List ℕ) → Storing old from whole out at (a ++ rest) → at + length a ≤ length out
+  storing_room a rest s = omega (arith, s.place, s.len, s.room, length-append a rest)
 
   pub storing-step :
       (a rest : List ℕ) → Storing old from whole out at (a ++ rest) → {out' : List ℕ} {at' : ℕ} → out' ≡ sets out at a → at' ≡ at + length a
       → Storing old from whole out' at' rest
   storing-step a rest s {out'} {at'} e h =
       record {
-        stored = rw (e, h) (sym (sets-append a rest out at) ∙ s.stored);
+        stored = rw (e, h) (sym (sets_append a rest out at) ∙ s.stored);
         place = omega (arith, s.place, length-append a rest);
         len = ap length e ∙ length-sets out at a ∙ s.len;
         room = s.room;
       }
 
   -- the last part
-  pub storing-last : (rest : List ℕ) → Storing old from whole out at rest → {out' : List ℕ} → out' ≡ sets out at rest → out' ≡ sets old from whole
-  storing-last rest s e = e ∙ s.stored
+  pub storing_last : (rest : List ℕ) → Storing old from whole out at rest → {out' : List ℕ} → out' ≡ sets out at rest → out' ≡ sets old from whole
+  storing_last rest s e = e ∙ s.stored
 
-  pub storing-left : (rest : List ℕ) → Storing old from whole out at rest → at + length rest ≤ length out
-  storing-left rest s = omega (arith, s.place, s.len, s.room)
+  pub storing_left : (rest : List ℕ) → Storing old from whole out at rest → at + length rest ≤ length out
+  storing_left rest s = omega (arith, s.place, s.len, s.room)
 
   -- nothing is left
-  pub storing-end : Storing old from whole out at [] → out ≡ sets old from whole
-  storing-end s = s.stored
+  pub storing_end : Storing old from whole out at [] → out ≡ sets old from whole
+  storing_end s = s.stored

@@ -12,27 +12,27 @@ use lib.Signed.{lt_z}
 use borrow.Author.Tests.{eq-eqb, ne_eqb, ltb-true, ltb-false, lt-ltb, le-ltb}
 use Rattle.lists.specs.Lists.{eight, pick}
 use Rattle.jobs.specs.Job.{lex}
-use Rattle.jobs.specs.Place.{gapMask, workMask}
-use Rattle.jobs.proofs.Places.{InTime, jobPlace, place-less, place-range}
+use Rattle.jobs.specs.Place.{gap_mask, work_mask}
+use Rattle.jobs.proofs.Places.{InTime, job_place, place-less, place_range}
 use Rattle.cores.specs.Walk.{sooner, taken}
-use Rattle.cores.proofs.RankLaws.{sooner-some}
-use Rattle.tasks.specs.Table.{tableFault}
-use Rattle.tasks.specs.State.{start, notPreempted, ready, started, keeps, improper}
-use Rattle.tasks.specs.Tick.{bit, released, key, age, before, runs, chosen, ranAt, fallen, ran, after}
+use Rattle.cores.proofs.RankLaws.{sooner_some}
+use Rattle.tasks.specs.Table.{table_fault}
+use Rattle.tasks.specs.State.{start, not_preempted, ready, started, keeps, improper}
+use Rattle.tasks.specs.Tick.{bit, released, key, age, before, runs, chosen, ran_at, fallen, ran, after}
 use Rattle.tasks.specs.Words.{words_of, state_of}
-use Rattle.tasks.specs.Ticker.{place_in, placesIn, kept_at, base_at, tickerOf, oldWord, preparedBy, selected, lowered, tickedBy}
+use Rattle.tasks.specs.Ticker.{place_in, places_in, kept_at, base_at, ticker_of, old_word, prepared_by, selected, lowered, ticked_by}
 use Rattle.tasks.specs.declared.state.State.{State}
 use Rattle.tasks.specs.declared.table.Table.{Table}
 use Rattle.lists.proofs.Bools.{by_bool}
-use Rattle.lists.proofs.Fill.{eight-at, eight-same}
+use Rattle.lists.proofs.Fill.{eight_at, eight_same}
 use Rattle.tasks.proofs.Tables.{ordered}
-use Rattle.tasks.proofs.Choice.{runs-work}
+use Rattle.tasks.proofs.Choice.{runs_work}
 use Rattle.tasks.proofs.Late.{not_late}
-use Rattle.tasks.proofs.Proper.{proper-task}
+use Rattle.tasks.proofs.Proper.{proper_task}
 use Rattle.tasks.proofs.Place.{Waits, Placed, taken_runs}
-use Rattle.tasks.proofs.Bits.{mask-test}
-use Rattle.tasks.proofs.InWords.{StateBytes, WordList, state-same, words-at, words-fit, words-state, work-word, gap_word}
-use Rattle.tasks.proofs.After.{work-on, work-off, gap-on, gap-off}
+use Rattle.tasks.proofs.Bits.{mask_test}
+use Rattle.tasks.proofs.InWords.{StateBytes, WordList, state_same, words_at, words_fit, words_state, work_word, gap_word}
+use Rattle.tasks.proofs.After.{work_on, work_off, gap_on, gap_off}
 
 -- ---- a mask's bits
 
@@ -51,49 +51,49 @@ full (suc (suc (suc (suc (suc (suc (suc (suc i)))))))) h = absurd (omega arith)
 -- ---- the places
 
 -- the place of task i by its two numbers
-jobAt : Table → State → ℕ → ℕ
-jobAt t s i = jobPlace t.policy (get_or t.deadline i 0) (get_or t.gap i 0) (get_or s.p i 0) (get_or s.c i 0)
+job_at : Table → State → ℕ → ℕ
+job_at t s i = job_place t.policy (get_or t.deadline i 0) (get_or t.gap i 0) (get_or s.p i 0) (get_or s.c i 0)
 
-placeAt : Table → State → ℕ → ℕ
-placeAt t s i = pick (ready s i) (pick (keeps t s i) 0 (jobAt t s i)) 65535
+place_at : Table → State → ℕ → ℕ
+place_at t s i = pick (ready s i) (pick (keeps t s i) 0 (job_at t s i)) 65535
 
 -- it is made of the two numbers, and of no other
-place_same : (t : Table) (s u : State) (i : ℕ) → get_or s.c i 0 ≡ get_or u.c i 0 → get_or s.p i 0 ≡ get_or u.p i 0 → placeAt t s i ≡ placeAt t u i
-unfolding placeAt jobAt keeps started
+place_same : (t : Table) (s u : State) (i : ℕ) → get_or s.c i 0 ≡ get_or u.c i 0 → get_or s.p i 0 ≡ get_or u.p i 0 → place_at t s i ≡ place_at t u i
+unfolding place_at job_at keeps started
 place_same t s u i e h = rw (e, h)
 
-stays-test : (stays : Bool) (c work : ℕ) → ltb c (pick stays work 0) ≡ stays && ltb c work
-stays-test true c work = refl
-stays-test false c work = le-ltb c 0 (omega arith)
+stays_test : (stays : Bool) (c work : ℕ) → ltb c (pick stays work 0) ≡ stays && ltb c work
+stays_test true c work = refl
+stays_test false c work = le-ltb c 0 (omega arith)
 
 place-word :
     (t : Table) (s : State) (i w : ℕ) → get_or s.c i 0 ≡ w % 256 → get_or s.p i 0 ≡ w / 256
-    → place_in (gapMask t.policy) (workMask t.policy) (kept_at t i) (base_at t i) w ≡ placeAt t s i
-unfolding place_in placeAt jobAt kept_at base_at keeps started
+    → place_in (gap_mask t.policy) (work_mask t.policy) (kept_at t i) (base_at t i) w ≡ place_at t s i
+unfolding place_in place_at job_at kept_at base_at keeps started
 place-word t s i w e k =
     rw (e, k)
     (by_bool (ltb 0 (w % 256))
     (λ r.
     rw r
     (ap
-    (λ y. pick y 0 (jobPlace t.policy (get_or t.deadline i 0) (get_or t.gap i 0) (w / 256) (w % 256)))
-    (stays-test (notPreempted t) (w % 256) (get_or t.work i 0))))
+    (λ y. pick y 0 (job_place t.policy (get_or t.deadline i 0) (get_or t.gap i 0) (w / 256) (w % 256)))
+    (stays_test (not_preempted t) (w % 256) (get_or t.work i 0))))
     (λ r. rw r))
 
 -- the places of eight words, by the table made ready
 places-word :
     (t : Table) (v : List ℕ) (i : ℕ) → i < 8
-    → get_or (placesIn (eight (λ i. gapMask t.policy)) (eight (λ i. workMask t.policy)) (eight (kept_at t)) (eight (base_at t)) v) i 0
-    ≡ place_in (gapMask t.policy) (workMask t.policy) (kept_at t i) (base_at t i) (get_or v i 0)
-unfolding placesIn
+    → get_or (places_in (eight (λ i. gap_mask t.policy)) (eight (λ i. work_mask t.policy)) (eight (kept_at t)) (eight (base_at t)) v) i 0
+    ≡ place_in (gap_mask t.policy) (work_mask t.policy) (kept_at t i) (base_at t i) (get_or v i 0)
+unfolding places_in
 places-word t v i h =
-    eight-at 0 (λ i. place_in (get_or (eight (λ i. gapMask t.policy)) i 0) (get_or (eight (λ i. workMask t.policy)) i 0) (get_or (eight (kept_at t)) i 0) (get_or (eight (base_at t)) i 0) (get_or v i 0)) i h
+    eight_at 0 (λ i. place_in (get_or (eight (λ i. gap_mask t.policy)) i 0) (get_or (eight (λ i. work_mask t.policy)) i 0) (get_or (eight (kept_at t)) i 0) (get_or (eight (base_at t)) i 0) (get_or v i 0)) i h
     ∙ ap₂ (λ x y. place_in x y (get_or (eight (kept_at t)) i 0) (get_or (eight (base_at t)) i 0) (get_or v i 0))
-    (eight-at 0 (λ i. gapMask t.policy) i h)
-    (eight-at 0 (λ i. workMask t.policy) i h)
-    ∙ ap₂ (λ x y. place_in (gapMask t.policy) (workMask t.policy) x y (get_or v i 0))
-    (eight-at 0 (kept_at t) i h)
-    (eight-at 0 (base_at t) i h)
+    (eight_at 0 (λ i. gap_mask t.policy) i h)
+    (eight_at 0 (λ i. work_mask t.policy) i h)
+    ∙ ap₂ (λ x y. place_in (gap_mask t.policy) (work_mask t.policy) x y (get_or v i 0))
+    (eight_at 0 (kept_at t) i h)
+    (eight_at 0 (base_at t) i h)
 
 -- ---- the places of a state after a release, from a proper one
 
@@ -104,9 +104,9 @@ three false true x y n = refl
 three false false x y n = refl
 
 -- a place goes before another where it is smaller, or is not greater and its task's number is smaller
-sooner-less : (y k x i : ℕ) → y < 65534 → x < 65534 → sooner y k x i ≡ (ltb y x || (not (ltb x y) && ltb k i))
-sooner-less y k x i h l =
-    sooner-some y k x i h l
+sooner_less : (y k x i : ℕ) → y < 65534 → x < 65534 → sooner y k x i ≡ (ltb y x || (not (ltb x y) && ltb k i))
+sooner_less y k x i h l =
+    sooner_some y k x i h l
     ∙ by_bool (ltb y x) (λ e. rw e)
     (λ e.
     elim (ℕ_discrete y x) [
@@ -114,80 +114,80 @@ sooner-less y k x i h l =
       | no d ↦ rw (e, ne_eqb y x d, lt-ltb x y (omega (arith, ltb-false y x e)))
     ])
 
-module _ (t : Table) (s : State) (mask : ℕ) (valid : tableFault t ≡ 0) (proper : improper t s ≡ false) where
+module _ (t : Table) (s : State) (mask : ℕ) (valid : table_fault t ≡ 0) (proper : improper t s ≡ false) where
   -- a job after the release is in time
-  in-time : (i : ℕ) → i < 8 → ready (released t s mask) i ≡ true → InTime (get_or t.deadline i 0) (get_or t.gap i 0) (get_or (released t s mask).p i 0) (get_or (released t s mask).c i 0)
-  in-time i h r =
+  in_time : (i : ℕ) → i < 8 → ready (released t s mask) i ≡ true → InTime (get_or t.deadline i 0) (get_or t.gap i 0) (get_or (released t s mask).p i 0) (get_or (released t s mask).c i 0)
+  in_time i h r =
       let o = ordered t valid i h in
       by_bool (bit mask i)
       (λ e.
-      let c = work-on t s mask i h e in
-      let p = gap-on t s mask i h e in
+      let c = work_on t s mask i h e in
+      let p = gap_on t s mask i h e in
       record { least = o.least; deadline = o.deadline; gap = omega arith; kept = omega (arith, o.work) })
       (λ e.
-      let c = work-off t s mask i h e in
-      let p = gap-off t s mask i h e in
-      let f = proper-task t s proper i h in
+      let c = work_off t s mask i h e in
+      let p = gap_off t s mask i h e in
+      let f = proper_task t s proper i h in
       let job = ltb-true 0 (get_or (released t s mask).c i 0) r in
       record { least = o.least; deadline = o.deadline; gap = omega (arith, f.gap); kept = omega (arith, not_late t s i f.kept (omega arith)) })
 
-  abbrev after-release : State
-  after-release = released t s mask
+  abbrev after_release : State
+  after_release = released t s mask
 
-  place-free : (i : ℕ) → Waits t after-release i → placeAt t after-release i ≡ jobAt t after-release i
-  unfolding placeAt
-  place-free i w = rw (w.has, w.free)
+  place_free : (i : ℕ) → Waits t after_release i → place_at t after_release i ≡ job_at t after_release i
+  unfolding place_at
+  place_free i w = rw (w.has, w.free)
 
   job-less :
-      (j i : ℕ) → Waits t after-release j → Waits t after-release i
-      → ltb (jobAt t after-release j) (jobAt t after-release i)
-      ≡ lex (key t after-release j) (key t after-release i) (lt_z (age t after-release i) (age t after-release j))
-  unfolding jobAt key age
+      (j i : ℕ) → Waits t after_release j → Waits t after_release i
+      → ltb (job_at t after_release j) (job_at t after_release i)
+      ≡ lex (key t after_release j) (key t after_release i) (lt_z (age t after_release i) (age t after_release j))
+  unfolding job_at key age
   job-less j i w x =
-      place-less t.policy (get_or t.deadline j 0) (get_or t.gap j 0) (get_or after-release.p j 0) (get_or after-release.c j 0)
-      (get_or t.deadline i 0) (get_or t.gap i 0) (get_or after-release.p i 0) (get_or after-release.c i 0)
-      (in-time j w.small w.has) (in-time i x.small x.has)
+      place-less t.policy (get_or t.deadline j 0) (get_or t.gap j 0) (get_or after_release.p j 0) (get_or after_release.c j 0)
+      (get_or t.deadline i 0) (get_or t.gap i 0) (get_or after_release.p i 0) (get_or after_release.c i 0)
+      (in_time j w.small w.has) (in_time i x.small x.has)
 
-  job-range : (i : ℕ) → Waits t after-release i → (0 < jobAt t after-release i) × (jobAt t after-release i < 65534)
-  unfolding jobAt
-  job-range i w =
-      place-range t.policy (get_or t.deadline i 0) (get_or t.gap i 0) (get_or after-release.p i 0) (get_or after-release.c i 0) (in-time i w.small w.has)
+  job_range : (i : ℕ) → Waits t after_release i → (0 < job_at t after_release i) × (job_at t after_release i < 65534)
+  unfolding job_at
+  job_range i w =
+      place_range t.policy (get_or t.deadline i 0) (get_or t.gap i 0) (get_or after_release.p i 0) (get_or after_release.c i 0) (in_time i w.small w.has)
 
   job-before :
-      (j i : ℕ) → Waits t after-release j → Waits t after-release i
-      → sooner (jobAt t after-release j) j (jobAt t after-release i) i ≡ before t after-release j i
+      (j i : ℕ) → Waits t after_release j → Waits t after_release i
+      → sooner (job_at t after_release j) j (job_at t after_release i) i ≡ before t after_release j i
   unfolding before
   job-before j i w x =
-      sooner-less (jobAt t after-release j) j (jobAt t after-release i) i (job-range j w).1 (job-range i x).1
+      sooner_less (job_at t after_release j) j (job_at t after_release i) i (job_range j w).1 (job_range i x).1
       ∙ rw (job-less j i w x, job-less i j x w)
       (three
-      (lt_z (key t after-release j) (key t after-release i)) (lt_z (key t after-release i) (key t after-release j))
-      (lt_z (age t after-release i) (age t after-release j)) (lt_z (age t after-release j) (age t after-release i)) (ltb j i))
+      (lt_z (key t after_release j) (key t after_release i)) (lt_z (key t after_release i) (key t after_release j))
+      (lt_z (age t after_release i) (age t after_release j)) (lt_z (age t after_release j) (age t after_release i)) (ltb j i))
 
   -- these places stand in the order of the jobs
-  numbers-placed : {places : List ℕ} → ((i : ℕ) → i < 8 → get_or places i 0 ≡ placeAt t after-release i) → Placed t after-release places
-  unfolding placeAt
-  numbers-placed at =
+  numbers_placed : {places : List ℕ} → ((i : ℕ) → i < 8 → get_or places i 0 ≡ place_at t after_release i) → Placed t after_release places
+  unfolding place_at
+  numbers_placed at =
       record {
         none = λ i h r. at i h ∙ rw r;
         kept = λ i h r e. at i h ∙ rw (r, e);
-        some = λ i w. rw (at i w.small ∙ place-free i w) (job-range i w);
-        order = λ j i w x. rw (at j w.small ∙ place-free j w, at i x.small ∙ place-free i x) (job-before j i w x);
+        some = λ i w. rw (at i w.small ∙ place_free i w) (job_range i w);
+        order = λ j i w x. rw (at j w.small ∙ place_free j w, at i x.small ∙ place_free i x) (job-before j i w x);
       }
 
 -- ---- what a mask selects
 
 module _ (mask : ℕ) (old new : List ℕ) (i : ℕ) (h : i < 8) where
-  bit-tested : eqb (bit_and mask (get_or (eight (λ i. 2 ^ i)) i 0)) 0 ≡ not (bit mask i)
-  bit-tested = ap (λ x. eqb (bit_and mask x) 0) (eight-at 0 (λ i. 2 ^ i) i h) ∙ mask-test mask i
+  bit_tested : eqb (bit_and mask (get_or (eight (λ i. 2 ^ i)) i 0)) 0 ≡ not (bit mask i)
+  bit_tested = ap (λ x. eqb (bit_and mask x) 0) (eight_at 0 (λ i. 2 ^ i) i h) ∙ mask_test mask i
 
-  selected-new : bit mask i ≡ true → selected (eight (λ i. 2 ^ i)) mask old new i ≡ get_or new i 0
+  selected_new : bit mask i ≡ true → selected (eight (λ i. 2 ^ i)) mask old new i ≡ get_or new i 0
   unfolding selected
-  selected-new e = ap (λ b. pick b (get_or old i 0) (get_or new i 0)) (bit-tested ∙ ap not e)
+  selected_new e = ap (λ b. pick b (get_or old i 0) (get_or new i 0)) (bit_tested ∙ ap not e)
 
-  selected-old : bit mask i ≡ false → selected (eight (λ i. 2 ^ i)) mask old new i ≡ get_or old i 0
+  selected_old : bit mask i ≡ false → selected (eight (λ i. 2 ^ i)) mask old new i ≡ get_or old i 0
   unfolding selected
-  selected-old e = ap (λ b. pick b (get_or old i 0) (get_or new i 0)) (bit-tested ∙ ap not e)
+  selected_old e = ap (λ b. pick b (get_or old i 0) (get_or new i 0)) (bit_tested ∙ ap not e)
 
 -- ---- a tick
 
@@ -196,128 +196,128 @@ word_low : (r : Bool) (c p : ℕ) → c < 256 → (r ≡ true → 0 < c) → (c 
 word_low true c p h k = let f = k refl in omega arith
 word_low false c p h k = omega arith
 
-word-high : (r : Bool) (c p : ℕ) → c < 256 → (r ≡ true → 0 < c) → (c + 256 * p - pick r 1 0) / 256 ≡ p
-word-high true c p h k = let f = k refl in omega arith
-word-high false c p h k = omega arith
+word_high : (r : Bool) (c p : ℕ) → c < 256 → (r ≡ true → 0 < c) → (c + 256 * p - pick r 1 0) / 256 ≡ p
+word_high true c p h k = let f = k refl in omega arith
+word_high false c p h k = omega arith
 
 -- a run of no task
-idle-work : (s : State) (i : ℕ) → i < 8 → get_or (ran s (eight (λ i. false))).c i 0 ≡ get_or s.c i 0
-unfolding ran ranAt
-idle-work s i h =
-    eight-at 0 (ranAt s.c (eight (λ i. false))) i h
-    ∙ ap (λ b. pick b (get_or s.c i 0 - 1) (get_or s.c i 0)) (eight-at false (λ i. false) i h)
+idle_work : (s : State) (i : ℕ) → i < 8 → get_or (ran s (eight (λ i. false))).c i 0 ≡ get_or s.c i 0
+unfolding ran ran_at
+idle_work s i h =
+    eight_at 0 (ran_at s.c (eight (λ i. false))) i h
+    ∙ ap (λ b. pick b (get_or s.c i 0 - 1) (get_or s.c i 0)) (eight_at false (λ i. false) i h)
 
-idle-gap : (s : State) (i : ℕ) → i < 8 → get_or (ran s (eight (λ i. false))).p i 0 ≡ get_or s.p i 0 - 1
+idle_gap : (s : State) (i : ℕ) → i < 8 → get_or (ran s (eight (λ i. false))).p i 0 ≡ get_or s.p i 0 - 1
 unfolding ran fallen
-idle-gap s i h = eight-at 0 (fallen s.p) i h
+idle_gap s i h = eight_at 0 (fallen s.p) i h
 
 -- the word of a task that has just been released, but for the run
-word-new : (t : Table) (i : ℕ) → i < 8 → get_or (words_of (ran (released t start 255) (eight (λ i. false)))) i 0 ≡ get_or t.work i 0 + 256 * (get_or t.gap i 0 - 1)
-word-new t i h =
-    words-at (ran (released t start 255) (eight (λ i. false))) i h
+word_new : (t : Table) (i : ℕ) → i < 8 → get_or (words_of (ran (released t start 255) (eight (λ i. false)))) i 0 ≡ get_or t.work i 0 + 256 * (get_or t.gap i 0 - 1)
+word_new t i h =
+    words_at (ran (released t start 255) (eight (λ i. false))) i h
     ∙ ap₂ (λ c p. c + 256 * p)
-    (idle-work (released t start 255) i h ∙ work-on t start 255 i h (full i h))
-    (idle-gap (released t start 255) i h ∙ ap (λ p. p - 1) (gap-on t start 255 i h (full i h)))
+    (idle_work (released t start 255) i h ∙ work_on t start 255 i h (full i h))
+    (idle_gap (released t start 255) i h ∙ ap (λ p. p - 1) (gap_on t start 255 i h (full i h)))
 
 -- the place of task i in a state's words
 state-place :
     (t : Table) (s : State) (i : ℕ) → i < 8 → get_or s.c i 0 < 256
-    → get_or (placesIn (eight (λ i. gapMask t.policy)) (eight (λ i. workMask t.policy)) (eight (kept_at t)) (eight (base_at t)) (words_of s)) i 0 ≡ placeAt t s i
+    → get_or (places_in (eight (λ i. gap_mask t.policy)) (eight (λ i. work_mask t.policy)) (eight (kept_at t)) (eight (base_at t)) (words_of s)) i 0 ≡ place_at t s i
 state-place t s i h small =
     places-word t (words_of s) i h
     ∙ place-word t s i (get_or (words_of s) i 0)
-    (rw (words-at s i h) (omega arith))
-    (rw (words-at s i h) (omega arith))
+    (rw (words_at s i h) (omega arith))
+    (rw (words_at s i h) (omega arith))
 
-module _ (t : Table) (v : List ℕ) (mask : ℕ) (valid : tableFault t ≡ 0) (proper : improper t (state_of v) ≡ false) (words : WordList v) where
+module _ (t : Table) (v : List ℕ) (mask : ℕ) (valid : table_fault t ≡ 0) (proper : improper t (state_of v) ≡ false) (words : WordList v) where
   -- the state after the release
   abbrev u : State
   u = released t (state_of v) mask
 
-  work-old : (i : ℕ) → i < 8 → bit mask i ≡ false → get_or u.c i 0 ≡ get_or v i 0 % 256
-  work-old i h e = work-off t (state_of v) mask i h e ∙ work-word v i h
+  work_old : (i : ℕ) → i < 8 → bit mask i ≡ false → get_or u.c i 0 ≡ get_or v i 0 % 256
+  work_old i h e = work_off t (state_of v) mask i h e ∙ work_word v i h
 
-  gap-old : (i : ℕ) → i < 8 → bit mask i ≡ false → get_or u.p i 0 ≡ get_or v i 0 / 256
-  gap-old i h e = gap-off t (state_of v) mask i h e ∙ gap_word v i h
+  gap_old : (i : ℕ) → i < 8 → bit mask i ≡ false → get_or u.p i 0 ≡ get_or v i 0 / 256
+  gap_old i h e = gap_off t (state_of v) mask i h e ∙ gap_word v i h
 
-  work-small : (i : ℕ) → i < 8 → get_or u.c i 0 < 256
-  work-small i h =
+  work_small : (i : ℕ) → i < 8 → get_or u.c i 0 < 256
+  work_small i h =
       by_bool (bit mask i)
-      (λ e. omega (arith, work-on t (state_of v) mask i h e, ordered t valid i h))
-      (λ e. omega (arith, work-old i h e))
+      (λ e. omega (arith, work_on t (state_of v) mask i h e, ordered t valid i h))
+      (λ e. omega (arith, work_old i h e))
 
   -- the place and the word selected for a task
   abbrev places : ℕ → ℕ
-  places = selected (tickerOf t).bits mask (preparedBy (tickerOf t) v).place (tickerOf t).newplace
+  places = selected (ticker_of t).bits mask (prepared_by (ticker_of t) v).place (ticker_of t).newplace
 
   abbrev lasting : ℕ → ℕ
-  lasting = selected (tickerOf t).bits mask (preparedBy (tickerOf t) v).word (tickerOf t).newword
+  lasting = selected (ticker_of t).bits mask (prepared_by (ticker_of t) v).word (ticker_of t).newword
 
   -- the place is that of the state after the release
-  place_at : (i : ℕ) → i < 8 → places i ≡ placeAt t u i
-  unfolding tickerOf preparedBy
-  place_at i h =
+  place_at_lem : (i : ℕ) → i < 8 → places i ≡ place_at t u i
+  unfolding ticker_of prepared_by
+  place_at_lem i h =
       by_bool (bit mask i)
       (λ e.
-      selected-new mask (preparedBy (tickerOf t) v).place (tickerOf t).newplace i h e
-      ∙ state-place t (released t start 255) i h (omega (arith, work-on t start 255 i h (full i h), ordered t valid i h))
+      selected_new mask (prepared_by (ticker_of t) v).place (ticker_of t).newplace i h e
+      ∙ state-place t (released t start 255) i h (omega (arith, work_on t start 255 i h (full i h), ordered t valid i h))
       ∙ place_same t (released t start 255) u i
-      (work-on t start 255 i h (full i h) ∙ sym (work-on t (state_of v) mask i h e))
-      (gap-on t start 255 i h (full i h) ∙ sym (gap-on t (state_of v) mask i h e)))
+      (work_on t start 255 i h (full i h) ∙ sym (work_on t (state_of v) mask i h e))
+      (gap_on t start 255 i h (full i h) ∙ sym (gap_on t (state_of v) mask i h e)))
       (λ e.
-      selected-old mask (preparedBy (tickerOf t) v).place (tickerOf t).newplace i h e
+      selected_old mask (prepared_by (ticker_of t) v).place (ticker_of t).newplace i h e
       ∙ places-word t v i h
-      ∙ place-word t u i (get_or v i 0) (work-old i h e) (gap-old i h e))
+      ∙ place-word t u i (get_or v i 0) (work_old i h e) (gap_old i h e))
 
   -- the word is that of its two numbers, but for the run
   word_at : (i : ℕ) → i < 8 → lasting i ≡ get_or u.c i 0 + 256 * (get_or u.p i 0 - 1)
-  unfolding tickerOf preparedBy oldWord
+  unfolding ticker_of prepared_by old_word
   word_at i h =
       by_bool (bit mask i)
       (λ e.
-      selected-new mask (preparedBy (tickerOf t) v).word (tickerOf t).newword i h e
-      ∙ word-new t i h
-      ∙ rw (work-on t (state_of v) mask i h e, gap-on t (state_of v) mask i h e))
+      selected_new mask (prepared_by (ticker_of t) v).word (ticker_of t).newword i h e
+      ∙ word_new t i h
+      ∙ rw (work_on t (state_of v) mask i h e, gap_on t (state_of v) mask i h e))
       (λ e.
-      selected-old mask (preparedBy (tickerOf t) v).word (tickerOf t).newword i h e
-      ∙ eight-at 0 (λ i. oldWord (get_or v i 0)) i h
-      ∙ rw (work-old i h e, gap-old i h e))
+      selected_old mask (prepared_by (ticker_of t) v).word (ticker_of t).newword i h e
+      ∙ eight_at 0 (λ i. old_word (get_or v i 0)) i h
+      ∙ rw (work_old i h e, gap_old i h e))
 
   -- LAW: the walk goes through places in the order of the jobs of the state after the release
-  pub places-at : Placed t u (eight places)
-  places-at = numbers-placed t (state_of v) mask valid proper (λ i h. eight-at 0 places i h ∙ place_at i h)
+  pub places_at : Placed t u (eight places)
+  places_at = numbers_placed t (state_of v) mask valid proper (λ i h. eight_at 0 places i h ∙ place_at_lem i h)
 
   -- the tasks taken are those that run
   taken_at : (i : ℕ) → i < 8 → taken (eight places) t.m i ≡ runs t u i
-  taken_at = taken_runs t u (eight places) places-at
+  taken_at = taken_runs t u (eight places) places_at
 
   ticked-at :
       (i : ℕ) → i < 8
-      → get_or (tickedBy (tickerOf t) (preparedBy (tickerOf t) v) mask) i 0
+      → get_or (ticked_by (ticker_of t) (prepared_by (ticker_of t) v) mask) i 0
       ≡ get_or u.c i 0 + 256 * (get_or u.p i 0 - 1) - pick (runs t u i) 1 0
-  unfolding tickedBy lowered tickerOf
+  unfolding ticked_by lowered ticker_of
   ticked-at i h =
-      eight-at 0 (λ i. get_or (eight lasting) i 0 - pick (taken (eight places) t.m i) 1 0) i h
+      eight_at 0 (λ i. get_or (eight lasting) i 0 - pick (taken (eight places) t.m i) 1 0) i h
       ∙ ap₂ (λ w r. w - pick r 1 0)
-      (eight-at 0 lasting i h ∙ word_at i h)
+      (eight_at 0 lasting i h ∙ word_at i h)
       (taken_at i h)
 
   -- LAW: the state of the words after a tick is the state after the tick of the words' state
-  pub ticker-after : state_of (tickedBy (tickerOf t) (preparedBy (tickerOf t) v) mask) ≡ after t (state_of v) mask
-  unfolding state_of after ran ranAt fallen chosen
-  ticker-after =
-      state-same
-      (eight-same (λ i. get_or (tickedBy (tickerOf t) (preparedBy (tickerOf t) v) mask) i 0 % 256) (ranAt u.c (chosen t u)) (λ i h.
+  pub ticker_after : state_of (ticked_by (ticker_of t) (prepared_by (ticker_of t) v) mask) ≡ after t (state_of v) mask
+  unfolding state_of after ran ran_at fallen chosen
+  ticker_after =
+      state_same
+      (eight_same (λ i. get_or (ticked_by (ticker_of t) (prepared_by (ticker_of t) v) mask) i 0 % 256) (ran_at u.c (chosen t u)) (λ i h.
       ap (λ w. w % 256) (ticked-at i h)
-      ∙ word_low (runs t u i) (get_or u.c i 0) (get_or u.p i 0 - 1) (work-small i h) (runs-work t u i)
-      ∙ ap (λ r. pick r (get_or u.c i 0 - 1) (get_or u.c i 0)) (sym (eight-at false (runs t u) i h))))
-      (eight-same (λ i. get_or (tickedBy (tickerOf t) (preparedBy (tickerOf t) v) mask) i 0 / 256) (fallen u.p) (λ i h.
+      ∙ word_low (runs t u i) (get_or u.c i 0) (get_or u.p i 0 - 1) (work_small i h) (runs_work t u i)
+      ∙ ap (λ r. pick r (get_or u.c i 0 - 1) (get_or u.c i 0)) (sym (eight_at false (runs t u) i h))))
+      (eight_same (λ i. get_or (ticked_by (ticker_of t) (prepared_by (ticker_of t) v) mask) i 0 / 256) (fallen u.p) (λ i h.
       ap (λ w. w / 256) (ticked-at i h)
-      ∙ word-high (runs t u i) (get_or u.c i 0) (get_or u.p i 0 - 1) (work-small i h) (runs-work t u i)))
+      ∙ word_high (runs t u i) (get_or u.c i 0) (get_or u.p i 0 - 1) (work_small i h) (runs_work t u i)))
 
 -- LAW: a tick of a proper state by its words
 pub ticker-state :
-    (t : Table) (s : State) (mask : ℕ) → tableFault t ≡ 0 → improper t s ≡ false → StateBytes s
-    → state_of (tickedBy (tickerOf t) (preparedBy (tickerOf t) (words_of s)) mask) ≡ after t s mask
+    (t : Table) (s : State) (mask : ℕ) → table_fault t ≡ 0 → improper t s ≡ false → StateBytes s
+    → state_of (ticked_by (ticker_of t) (prepared_by (ticker_of t) (words_of s)) mask) ≡ after t s mask
 ticker-state t s mask valid proper k =
-    ticker-after t (words_of s) mask valid (rw (words-state s k) proper) (words-fit s k) ∙ ap (λ x. after t x mask) (words-state s k)
+    ticker_after t (words_of s) mask valid (rw (words_state s k) proper) (words_fit s k) ∙ ap (λ x. after t x mask) (words_state s k)

@@ -21,43 +21,43 @@ use Rattle.tasks.specs.declared.play.Replayed.{Replayed}
 -- ---- sheets ("The sheet as bytes")
 
 -- a sheet number: the value and the next place
-unfoldable pub numberAnswer : Number → List ℕ
-numberAnswer (Number.Value v next) = 1 ∷ v ∷ next ∷ []
-numberAnswer (Number.Refused r) = 0 ∷ r ∷ []
+unfoldable pub number_answer : Number → List ℕ
+number_answer (Number.Value v next) = 1 ∷ v ∷ next ∷ []
+number_answer (Number.Refused r) = 0 ∷ r ∷ []
 
 -- a sheet read: the numbers of the table beside the answer
-unfoldable pub readingAnswer : Reading → Table → List ℕ
-readingAnswer Reading.Accepted t = 1 ∷ t.policy ∷ t.m ∷ t.n ∷ (t.work ++ (t.deadline ++ t.gap))
-readingAnswer (Reading.Refused r) t = 0 ∷ r ∷ []
+unfoldable pub reading_answer : Reading → Table → List ℕ
+reading_answer Reading.Accepted t = 1 ∷ t.policy ∷ t.m ∷ t.n ∷ (t.work ++ (t.deadline ++ t.gap))
+reading_answer (Reading.Refused r) t = 0 ∷ r ∷ []
 
 -- the answer and the table as one
-unfoldable pub sheetAnswer : Sheet → List ℕ
-sheetAnswer s = readingAnswer s.answer s.table
+unfoldable pub sheet_answer : Sheet → List ℕ
+sheet_answer s = reading_answer s.answer s.table
 
 -- a sheet written: its length
-unfoldable pub writingAnswer : Writing → List ℕ
-writingAnswer (Writing.Written n) = 1 ∷ n ∷ []
-writingAnswer (Writing.Refused r) = 0 ∷ r ∷ []
+unfoldable pub writing_answer : Writing → List ℕ
+writing_answer (Writing.Written n) = 1 ∷ n ∷ []
+writing_answer (Writing.Refused r) = 0 ∷ r ∷ []
 
 -- ---- ticks ("One tick", "Replay"), each with the numbers of the state beside the answer
 
-abbrev pub stateNumbers : State → List ℕ
-stateNumbers s = s.c ++ s.p
+abbrev pub state_numbers : State → List ℕ
+state_numbers s = s.c ++ s.p
 
-unfoldable pub tickFigures : TickAnswer → State → List ℕ
-tickFigures Tick.Next s = 1 ∷ stateNumbers s
-tickFigures Tick.Missed s = 2 ∷ stateNumbers s
-tickFigures (Tick.Refused r) s = 0 ∷ r ∷ stateNumbers s
+unfoldable pub tick_figures : TickAnswer → State → List ℕ
+tick_figures Tick.Next s = 1 ∷ state_numbers s
+tick_figures Tick.Missed s = 2 ∷ state_numbers s
+tick_figures (Tick.Refused r) s = 0 ∷ r ∷ state_numbers s
 
 -- one tick: the state after it, or the one given
 unfoldable pub tick_answer : Ticked → List ℕ
-tick_answer r = tickFigures r.answer r.state
+tick_answer r = tick_figures r.answer r.state
 
-unfoldable pub replayFigures : ReplayAnswer → State → List ℕ
-replayFigures (Replay.Played Outcome.Kept) s = 1 ∷ stateNumbers s
-replayFigures (Replay.Played (Outcome.Missed k)) s = 2 ∷ k ∷ stateNumbers s
-replayFigures (Replay.Refused r k) s = 0 ∷ r ∷ k ∷ stateNumbers s
+unfoldable pub replay_figures : ReplayAnswer → State → List ℕ
+replay_figures (Replay.Played Outcome.Kept) s = 1 ∷ state_numbers s
+replay_figures (Replay.Played (Outcome.Missed k)) s = 2 ∷ k ∷ state_numbers s
+replay_figures (Replay.Refused r k) s = 0 ∷ r ∷ k ∷ state_numbers s
 
 -- the replay of a list: the tick of the miss or of the refusal, and the state then
-unfoldable pub replayAnswer : Replayed → List ℕ
-replayAnswer r = replayFigures r.answer r.state
+unfoldable pub replay_answer : Replayed → List ℕ
+replay_answer r = replay_figures r.answer r.state

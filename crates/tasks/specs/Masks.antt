@@ -9,5 +9,5 @@ unfoldable pub releasable : Table → State → ℕ → Bool
 releasable t s i = ltb i t.n && eqb (get_or s.p i 0) 0
 
 -- the mask of all tasks that may be released
-unfoldable pub freeMask : Table → State → ℕ
-freeMask t s = bits_of 8 (releasable t s)
+unfoldable pub free_mask : Table → State → ℕ
+free_mask t s = bits_of 8 (releasable t s)

@@ -11,13 +11,13 @@ value [] = 0
 value (g ∷ gs) = g + 128 * value gs
 
 -- the groups of x, of which there are at most k + 1
-unfoldable pub groupsIn : ℕ → ℕ → List ℕ
-groupsIn zero x = x ∷ []
-groupsIn (suc k) x = pick (ltb x 128) (x ∷ []) (x % 128 ∷ groupsIn k (x / 128))
+unfoldable pub groups_in : ℕ → ℕ → List ℕ
+groups_in zero x = x ∷ []
+groups_in (suc k) x = pick (ltb x 128) (x ∷ []) (x % 128 ∷ groups_in k (x / 128))
 
 -- the groups of a number
 unfoldable pub groups : ℕ → List ℕ
-groups x = groupsIn x x
+groups x = groups_in x x
 
 -- a canonical group list: every group is below 128, and the last is at least `least`, or 1 where it follows another.
 -- `Canonical 0 gs`: the last group of gs is not 0 unless it stands alone
@@ -32,8 +32,8 @@ bytes_of (g ∷ []) = g ∷ []
 bytes_of (g ∷ h ∷ gs) = (g + 128) ∷ bytes_of (h ∷ gs)
 
 -- a number as bytes
-unfoldable pub numberBytes : ℕ → List ℕ
-numberBytes x = bytes_of (groups x)
+unfoldable pub number_bytes : ℕ → List ℕ
+number_bytes x = bytes_of (groups x)
 
 -- a group below what the later bytes gave
 abbrev pub above : ℕ → Number → Number

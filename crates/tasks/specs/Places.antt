@@ -20,10 +20,10 @@ place t s i = place_of (ready s i) (keeps t s i) (earlier t s i)
 -- ---- the same by the keys and ages of all tasks
 
 -- task j goes before task i
-unfoldable pub beforeIn : List ℤ → List ℤ → ℕ → ℕ → Bool
-beforeIn keys ages j i =
+unfoldable pub before_in : List ℤ → List ℤ → ℕ → ℕ → Bool
+before_in keys ages j i =
     lex (get_or keys j (pos 0)) (get_or keys i (pos 0)) (lex (get_or ages i (pos 0)) (get_or ages j (pos 0)) (ltb j i))
 
 -- how many of the first n tasks go before task i
-unfoldable pub earlierIn : List ℤ → List ℤ → ℕ → ℕ → ℕ
-earlierIn keys ages n i = count n (λ j. beforeIn keys ages j i)
+unfoldable pub earlier_in : List ℤ → List ℤ → ℕ → ℕ → ℕ
+earlier_in keys ages n i = count n (λ j. before_in keys ages j i)

@@ -3,8 +3,8 @@
 -- after a task's three numbers; 8 for bytes after the last task.
 use Rattle.std.specs.Prelude.{ℕ, zero, suc, ◌+◌, List, [], ◌∷◌, ◌++◌, ◌||◌, length, get_or, set, drop, ltb}
 use Rattle.lists.specs.Lists.{eight, pick}
-use Rattle.tasks.specs.Table.{lastPolicy, breaks, tableFault}
-use Rattle.tasks.specs.Number.{numberBytes, number_at}
+use Rattle.tasks.specs.Table.{last_policy, breaks, table_fault}
+use Rattle.tasks.specs.Number.{number_bytes, number_at}
 use Rattle.tasks.specs.declared.number.Number.{Number}
 use Rattle.tasks.specs.declared.number.Number.TheVariants.{Value, Refused}
 use Rattle.tasks.specs.declared.table.Table.{Table}
@@ -16,8 +16,8 @@ use Rattle.tasks.specs.declared.sheet.TaskRead.{TaskRead}
 use Rattle.tasks.specs.declared.sheet.TaskRead.TheVariants as TaskRead
 
 -- a table of n tasks before any is read
-abbrev pub emptyTable : ℕ → ℕ → ℕ → Table
-emptyTable policy m n =
+abbrev pub empty_table : ℕ → ℕ → ℕ → Table
+empty_table policy m n =
     record {
       policy = policy;
       m = m;
@@ -27,15 +27,15 @@ emptyTable policy m n =
       gap = eight (λ i. 0);
     }
 
-abbrev pub refusedWith : ℕ → Sheet
-refusedWith r = record { answer = Reading.Refused r; table = emptyTable 0 0 0 }
+abbrev pub refused_with : ℕ → Sheet
+refused_with r = record { answer = Reading.Refused r; table = empty_table 0 0 0 }
 
-abbrev pub acceptedAs : Table → Sheet
-acceptedAs t = record { answer = Reading.Accepted; table = t }
+abbrev pub accepted_as : Table → Sheet
+accepted_as t = record { answer = Reading.Accepted; table = t }
 
 -- the refusal r, or the table where r is 0
-unfoldable pub unlessRefused : ℕ → Table → Sheet
-unlessRefused r t = pick (ltb 0 r) (refusedWith r) (acceptedAs t)
+unfoldable pub unless_refused : ℕ → Table → Sheet
+unless_refused r t = pick (ltb 0 r) (refused_with r) (accepted_as t)
 
 -- ---- the numbers before the tasks
 
@@ -50,7 +50,7 @@ field_at s at low high r = ruled low high r (number_at s at)
 -- the rest of the sheet after a number, or its refusal
 abbrev pub and_then : Number → (ℕ → ℕ → Sheet) → Sheet
 and_then (Value v next) rest = rest v next
-and_then (Refused r) rest = refusedWith r
+and_then (Refused r) rest = refused_with r
 
 -- ---- a task
 
@@ -60,19 +60,19 @@ task_of work deadline gap next =
     pick (breaks work deadline gap) (TaskRead.Refused 7)
     (TaskRead.Read (record { work = work; deadline = deadline; gap = gap }) next)
 
-abbrev pub taskThen : Number → (ℕ → ℕ → TaskRead) → TaskRead
-taskThen (Value v next) rest = rest v next
-taskThen (Refused r) rest = TaskRead.Refused r
+abbrev pub task_then : Number → (ℕ → ℕ → TaskRead) → TaskRead
+task_then (Value v next) rest = rest v next
+task_then (Refused r) rest = TaskRead.Refused r
 
 -- the task at a place: C, D and P
-unfoldable pub taskAt : List ℕ → ℕ → TaskRead
-taskAt s at =
-    taskThen (number_at s at)
-    (λ work a. taskThen (number_at s a) (λ deadline b. taskThen (number_at s b) (λ gap next. task_of work deadline gap next)))
+unfoldable pub task_at : List ℕ → ℕ → TaskRead
+task_at s at =
+    task_then (number_at s at)
+    (λ work a. task_then (number_at s a) (λ deadline b. task_then (number_at s b) (λ gap next. task_of work deadline gap next)))
 
 -- the table with the numbers of task i set
-unfoldable pub withTask : Table → ℕ → Task → Table
-withTask t i task =
+unfoldable pub with_task : Table → ℕ → Task → Table
+with_task t i task =
     record {
       policy = t.policy;
       m = t.m;
@@ -83,84 +83,84 @@ withTask t i task =
     }
 
 -- the rest of the sheet after a task, or its refusal
-abbrev pub afterTask : TaskRead → (Task → ℕ → Sheet) → Sheet
-afterTask (TaskRead.Read task next) rest = rest task next
-afterTask (TaskRead.Refused r) rest = refusedWith r
+abbrev pub after_task : TaskRead → (Task → ℕ → Sheet) → Sheet
+after_task (TaskRead.Read task next) rest = rest task next
+after_task (TaskRead.Refused r) rest = refused_with r
 
 -- ---- the sheet
 
 -- k tasks more, from task i on, and then the end
-unfoldable pub tasksFrom : ℕ → ℕ → Table → List ℕ → ℕ → Sheet
-tasksFrom zero i t s at = pick (ltb at (length s)) (refusedWith 8) (acceptedAs t)
-tasksFrom (suc k) i t s at =
-    afterTask (taskAt s at) (λ task next. tasksFrom k (i + 1) (withTask t i task) s next)
+unfoldable pub tasks_from : ℕ → ℕ → Table → List ℕ → ℕ → Sheet
+tasks_from zero i t s at = pick (ltb at (length s)) (refused_with 8) (accepted_as t)
+tasks_from (suc k) i t s at =
+    after_task (task_at s at) (λ task next. tasks_from k (i + 1) (with_task t i task) s next)
 
 -- n tasks, and then the end
-unfoldable pub fromTasks : List ℕ → ℕ → ℕ → ℕ → ℕ → Sheet
-fromTasks s policy m n at = tasksFrom n 0 (emptyTable policy m n) s at
+unfoldable pub from_tasks : List ℕ → ℕ → ℕ → ℕ → ℕ → Sheet
+from_tasks s policy m n at = tasks_from n 0 (empty_table policy m n) s at
 
 -- policy, m and n, and then the tasks
-unfoldable pub fromPolicy : List ℕ → ℕ → Sheet
-fromPolicy s at =
-    and_then (field_at s at 0 lastPolicy 4)
-    (λ policy a. and_then (field_at s a 1 8 5) (λ m b. and_then (field_at s b 1 8 6) (λ n next. fromTasks s policy m n next)))
+unfoldable pub from_policy : List ℕ → ℕ → Sheet
+from_policy s at =
+    and_then (field_at s at 0 last_policy 4)
+    (λ policy a. and_then (field_at s a 1 8 5) (λ m b. and_then (field_at s b 1 8 6) (λ n next. from_tasks s policy m n next)))
 
 -- what reading a sheet answers
-unfoldable pub sheetOf : List ℕ → Sheet
-sheetOf s = and_then (field_at s 0 3 3 3) (λ fields. fromPolicy s)
+unfoldable pub sheet_of : List ℕ → Sheet
+sheet_of s = and_then (field_at s 0 3 3 3) (λ fields. from_policy s)
 
 -- the refusal of a call that is given a sheet: the sheet's own, or else the rest's
-abbrev pub afterReading : Reading → ℕ → ℕ
-afterReading Reading.Accepted rest = rest
-afterReading (Reading.Refused r) rest = r
+abbrev pub after_reading : Reading → ℕ → ℕ
+after_reading Reading.Accepted rest = rest
+after_reading (Reading.Refused r) rest = r
 
 -- ---- the writer
 
 -- the bytes of task i
-unfoldable pub taskBytes : Table → ℕ → List ℕ
-taskBytes t i = numberBytes (get_or t.work i 0) ++ (numberBytes (get_or t.deadline i 0) ++ numberBytes (get_or t.gap i 0))
+unfoldable pub task_bytes : Table → ℕ → List ℕ
+task_bytes t i = number_bytes (get_or t.work i 0) ++ (number_bytes (get_or t.deadline i 0) ++ number_bytes (get_or t.gap i 0))
 
 -- the bytes of k tasks from task i on
-unfoldable pub tasksBytes : Table → ℕ → ℕ → List ℕ
-tasksBytes t zero i = []
-tasksBytes t (suc k) i = taskBytes t i ++ tasksBytes t k (i + 1)
+unfoldable pub tasks_bytes : Table → ℕ → ℕ → List ℕ
+tasks_bytes t zero i = []
+tasks_bytes t (suc k) i = task_bytes t i ++ tasks_bytes t k (i + 1)
 
 -- the sheet of a table
-unfoldable pub sheetBytes : Table → List ℕ
-sheetBytes t =
-    numberBytes 3 ++ (numberBytes t.policy ++ (numberBytes t.m ++ (numberBytes t.n ++ tasksBytes t t.n 0)))
+unfoldable pub sheet_bytes : Table → List ℕ
+sheet_bytes t =
+    number_bytes 3 ++ (number_bytes t.policy ++ (number_bytes t.m ++ (number_bytes t.n ++ tasks_bytes t t.n 0)))
 
 -- why a table is not written to an output, 0 where it is: 4 to 7, then 12 where the output is shorter than the sheet
-unfoldable pub writeRefusal : Table → List ℕ → ℕ
-writeRefusal t out =
-    pick (ltb 0 (tableFault t)) (tableFault t) (pick (ltb (length out) (length (sheetBytes t))) 12 0)
+unfoldable pub write_refusal : Table → List ℕ → ℕ
+write_refusal t out =
+    pick (ltb 0 (table_fault t)) (table_fault t) (pick (ltb (length out) (length (sheet_bytes t))) 12 0)
 
 -- what the writer answers: the refusal, or the sheet's length
-unfoldable pub writeAnswer : Table → List ℕ → List ℕ
-writeAnswer t out = pick (ltb 0 (writeRefusal t out)) (0 ∷ writeRefusal t out ∷ []) (1 ∷ length (sheetBytes t) ∷ [])
+unfoldable pub write_answer : Table → List ℕ → List ℕ
+write_answer t out = pick (ltb 0 (write_refusal t out)) (0 ∷ write_refusal t out ∷ []) (1 ∷ length (sheet_bytes t) ∷ [])
 
 -- the output afterwards: the sheet at its front, later bytes as they were; a refusal leaves every byte
-unfoldable pub writeOut : Table → List ℕ → List ℕ
-writeOut t out = pick (ltb 0 (writeRefusal t out)) out (sheetBytes t ++ drop (length (sheetBytes t)) out)
+unfoldable pub write_out : Table → List ℕ → List ℕ
+write_out t out = pick (ltb 0 (write_refusal t out)) out (sheet_bytes t ++ drop (length (sheet_bytes t)) out)
 
 -- ---- read and written again
 
 -- what is answered where the reading is accepted, or its refusal
-abbrev pub ifRead : Reading → List ℕ → List ℕ
-ifRead Reading.Accepted w = w
-ifRead (Reading.Refused r) w = 0 ∷ r ∷ []
+abbrev pub if_read : Reading → List ℕ → List ℕ
+if_read Reading.Accepted w = w
+if_read (Reading.Refused r) w = 0 ∷ r ∷ []
 
-abbrev pub outIfRead : Reading → List ℕ → List ℕ → List ℕ
-outIfRead Reading.Accepted new old = new
-outIfRead (Reading.Refused r) new old = old
+abbrev pub out_if_read : Reading → List ℕ → List ℕ → List ℕ
+out_if_read Reading.Accepted new old = new
+out_if_read (Reading.Refused r) new old = old
 
 -- an accepted sheet read and written has the same bytes: the answer, and the output afterwards
-unfoldable pub copyAnswer : List ℕ → List ℕ → List ℕ
-copyAnswer s out = ifRead (sheetOf s).answer (pick (ltb (length out) (length s)) (0 ∷ 12 ∷ []) (1 ∷ length s ∷ []))
+unfoldable pub copy_answer : List ℕ → List ℕ → List ℕ
+copy_answer s out = if_read (sheet_of s).answer (pick (ltb (length out) (length s)) (0 ∷ 12 ∷ []) (1 ∷ length s ∷ []))
 
-unfoldable pub copyOut : List ℕ → List ℕ → List ℕ
-copyOut s out = outIfRead (sheetOf s).answer (pick (ltb (length out) (length s)) out (s ++ drop (length s) out)) out
+unfoldable pub copy_out : List ℕ → List ℕ → List ℕ
+copy_out s out = out_if_read (sheet_of s).answer (pick (ltb (length out) (length s)) out (s ++ drop (length s) out)) out
 
 -- a valid table written and read is the same table
-unfoldable pub tableAgain : Table → Sheet
-tableAgain t = pick (ltb 0 (tableFault t)) (refusedWith (tableFault t)) (acceptedAs t)
+unfoldable pub table_again : Table → Sheet
+table_again t = pick (ltb 0 (table_fault t)) (refused_with (table_fault t)) (accepted_as t)

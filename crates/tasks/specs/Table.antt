@@ -4,8 +4,8 @@ use Rattle.lists.specs.Lists.{pick, any}
 use Rattle.tasks.specs.declared.table.Table.{Table}
 
 -- the last policy: 0 NP-GFP, 1 P-GFP, 2 NP-EDF, 3 P-EDF, 4 P-LST, least slack first (document 02, §3)
-abbrev pub lastPolicy : ℕ
-lastPolicy = 4
+abbrev pub last_policy : ℕ
+last_policy = 4
 
 -- not 1 to 8
 abbrev pub outside : ℕ → Bool
@@ -16,16 +16,16 @@ unfoldable pub breaks : ℕ → ℕ → ℕ → Bool
 breaks work deadline gap = ltb work 1 || ltb deadline work || ltb gap deadline || ltb 200 gap
 
 -- task i, counted from 0, breaks the rule, or an entry after the nth is not 0
-unfoldable pub faultAt : Table → ℕ → Bool
-faultAt t i =
+unfoldable pub fault_at : Table → ℕ → Bool
+fault_at t i =
     pick (ltb i t.n)
     (breaks (get_or t.work i 0) (get_or t.deadline i 0) (get_or t.gap i 0))
     (ltb 0 (get_or t.work i 0) || ltb 0 (get_or t.deadline i 0) || ltb 0 (get_or t.gap i 0))
 
 -- the refusal of a table: the first of 4 to 7 that applies, and 0 for a valid table
-unfoldable pub tableFault : Table → ℕ
-tableFault t =
-    pick (ltb lastPolicy t.policy) 4
+unfoldable pub table_fault : Table → ℕ
+table_fault t =
+    pick (ltb last_policy t.policy) 4
     (pick (outside t.m) 5
     (pick (outside t.n) 6
-    (pick (any 8 (faultAt t)) 7 0)))
+    (pick (any 8 (fault_at t)) 7 0)))

@@ -8,14 +8,14 @@ use Rattle.tasks.specs.declared.state.State.{State}
 use Rattle.tasks.specs.declared.table.Table.{Table}
 
 -- a job with work left has slack 0 or less
-unfoldable pub tightJob : ℕ → ℕ → ℕ → ℕ → Bool
-tightJob deadline gap p c = ltb 0 c && lt_z (slack deadline gap p c) (pos 1)
+unfoldable pub tight_job : ℕ → ℕ → ℕ → ℕ → Bool
+tight_job deadline gap p c = ltb 0 c && lt_z (slack deadline gap p c) (pos 1)
 
 -- task i has a tight job, or would have one if it were released now
-unfoldable pub tightAt : Table → State → ℕ → Bool
-tightAt t s i =
-    tightJob (get_or t.deadline i 0) (get_or t.gap i 0) (get_or s.p i 0) (get_or s.c i 0)
-    || (eqb (get_or s.p i 0) 0 && tightJob (get_or t.deadline i 0) (get_or t.gap i 0) (get_or t.gap i 0) (get_or t.work i 0))
+unfoldable pub tight_at : Table → State → ℕ → Bool
+tight_at t s i =
+    tight_job (get_or t.deadline i 0) (get_or t.gap i 0) (get_or s.p i 0) (get_or s.c i 0)
+    || (eqb (get_or s.p i 0) 0 && tight_job (get_or t.deadline i 0) (get_or t.gap i 0) (get_or t.gap i 0) (get_or t.work i 0))
 
 unfoldable pub tight : Table → State → Bool
-tight t s = any 8 (tightAt t s)
+tight t s = any 8 (tight_at t s)

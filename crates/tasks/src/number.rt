@@ -1,8 +1,8 @@
 // Sheet numbers: groups of seven bits, low group first, the top bit of a byte set when another follows.
 ghost use Rattle.std.specs.Prelude.{◌≡◌, ◌+◌, ◌≤◌, ◌<◌, length, set};
 ghost use Rattle.std.proofs.lemmas.List.Edits.{sets};
-ghost use Rattle.tasks.specs.Answers.{numberAnswer};
-ghost use Rattle.tasks.specs.Number.{numberBytes, number_at};
+ghost use Rattle.tasks.specs.Answers.{number_answer};
+ghost use Rattle.tasks.specs.Number.{number_bytes, number_at};
 
 use crate::widths::wide;
 
@@ -15,7 +15,7 @@ pub enum Number {
 
 // The number at a place: one or two bytes.
 pub fn read_number(s: &[u8], at: usize) -> Number
-    ensures { numberAnswer result ≡ numberAnswer (number_at s.now at) }
+    ensures { number_answer result ≡ number_answer (number_at s.now at) }
 {
     if s.len() <= at {
         return Number::Refused(1);
@@ -40,7 +40,7 @@ pub fn read_number(s: &[u8], at: usize) -> Number
 
 // How many bytes a number takes.
 pub(crate) fn number_len(x: u8) -> usize
-    ensures { (result ≡ length (numberBytes x)) × (result ≤ 2) }
+    ensures { (result ≡ length (number_bytes x)) × (result ≤ 2) }
 {
     let mut rest = x;
     let mut n: usize = 1;
@@ -61,8 +61,8 @@ fn put_byte(out: &mut [u8], at: usize, x: u8)
 
 // Writes a number at a place, and answers the place after it.
 pub(crate) fn put_number(out: &mut [u8], at: usize, x: u8) -> usize
-    requires { at + length (numberBytes x) ≤ length out.old }
-    ensures { (result ≡ at + length (numberBytes x)) × (out.new ≡ sets out.old at (numberBytes x)) }
+    requires { at + length (number_bytes x) ≤ length out.old }
+    ensures { (result ≡ at + length (number_bytes x)) × (out.new ≡ sets out.old at (number_bytes x)) }
 {
     let mut rest = x;
     let mut i = at;

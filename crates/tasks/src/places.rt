@@ -2,7 +2,7 @@
 ghost use Rattle.std.specs.Prelude.{◌≡◌, ◌+◌, ◌<◌};
 ghost use Rattle.lists.specs.Lists.{eight};
 ghost use Rattle.tasks.specs.Tick.{key, age, chosen};
-ghost use Rattle.tasks.specs.Places.{place, earlierIn};
+ghost use Rattle.tasks.specs.Places.{place, earlier_in};
 
 use crate::state::State;
 use crate::table::Table;
@@ -10,8 +10,8 @@ use crate::widths::wide16;
 
 // For each task, how many of the first j go before it, with task j counted too.
 fn count_job(counts: [u16; 8], keys: [i16; 8], ages: [i16; 8], j: usize) -> [u16; 8]
-    requires { (j < 8) × (counts ≡ eight (earlierIn keys ages j)) }
-    ensures { result ≡ eight (earlierIn keys ages (j + 1)) }
+    requires { (j < 8) × (counts ≡ eight (earlier_in keys ages j)) }
+    ensures { result ≡ eight (earlier_in keys ages (j + 1)) }
 {
     let mut out = [0u16; 8];
     let mut i: usize = 0;
@@ -24,7 +24,7 @@ fn count_job(counts: [u16; 8], keys: [i16; 8], ages: [i16; 8], j: usize) -> [u16
 
 // For each task, how many go before it, by the keys and ages of all. A job is counted for all tasks at once, which the compiler makes into vectors.
 fn count_earlier(keys: [i16; 8], ages: [i16; 8]) -> [u16; 8]
-    ensures { result ≡ eight (earlierIn keys ages 8) }
+    ensures { result ≡ eight (earlier_in keys ages 8) }
 {
     let mut counts = [0u16; 8];
     let mut j: usize = 0;

@@ -1,9 +1,9 @@
 // The replay of a release list, one mask a tick, from the start state, and the play of a list from any state.
 ghost use Rattle.std.specs.Prelude.{◌≡◌, ◌≤◌, false, length};
-ghost use Rattle.tasks.specs.Table.{tableFault};
+ghost use Rattle.tasks.specs.Table.{table_fault};
 ghost use Rattle.tasks.specs.State.{improper};
-ghost use Rattle.tasks.specs.Answers.{replayAnswer};
-ghost use Rattle.tasks.specs.Replay.{played, replayed, playedFrom, replayTick};
+ghost use Rattle.tasks.specs.Answers.{replay_answer};
+ghost use Rattle.tasks.specs.Replay.{played, replayed, played_from, replay_tick};
 
 use crate::state::State;
 use crate::table::Table;
@@ -32,7 +32,7 @@ pub struct Replayed {
 // The masks of a valid table played from a proper state, up to the first miss or refusal; later masks are not read. Every state on the way is proper, so of a
 // tick's refusals only that of the mask is asked for.
 fn play(t: Table, first: State, masks: &[u8]) -> Replayed
-    requires { (tableFault t ≡ 0) × (improper t first ≡ false) }
+    requires { (table_fault t ≡ 0) × (improper t first ≡ false) }
     ensures { result ≡ played t first 0 masks.now }
 {
     let mut s = first;
@@ -65,7 +65,7 @@ fn play(t: Table, first: State, masks: &[u8]) -> Replayed
 
 // A list played on from a state, for any table and state: 4 to 7 and then 13 are refused before the first tick, with the state given. The first tick is 1.
 pub fn play_on(t: Table, s: State, masks: &[u8]) -> Replayed
-    ensures { (replayAnswer result ≡ replayAnswer (playedFrom t s 0 masks.now)) × (result.state ≡ (playedFrom t s 0 masks.now).state) × (replayTick result.answer ≤ length masks.now) }
+    ensures { (replay_answer result ≡ replay_answer (played_from t s 0 masks.now)) × (result.state ≡ (played_from t s 0 masks.now).state) × (replay_tick result.answer ≤ length masks.now) }
 {
     let fault = t.fault();
     if 0 < fault {
@@ -85,7 +85,7 @@ pub fn play_on(t: Table, s: State, masks: &[u8]) -> Replayed
 
 // The replay of a list, for any table: a bad table is refused before the first tick, with the start state.
 pub fn replay(t: Table, masks: &[u8]) -> Replayed
-    ensures { (replayAnswer result ≡ replayAnswer (replayed t masks.now)) × (result.state ≡ (replayed t masks.now).state) × (replayTick result.answer ≤ length masks.now) }
+    ensures { (replay_answer result ≡ replay_answer (replayed t masks.now)) × (result.state ≡ (replayed t masks.now).state) × (replay_tick result.answer ≤ length masks.now) }
 {
     let start = State::start();
     play_on(t, start, masks)

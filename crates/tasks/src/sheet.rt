@@ -1,7 +1,7 @@
 // The reader of a sheet.
 ghost use Rattle.std.specs.Prelude.{◌≡◌, ◌≤◌, ◌<◌};
-ghost use Rattle.tasks.specs.Answers.{sheetAnswer};
-ghost use Rattle.tasks.specs.Sheet.{field_at, task_of, taskAt, withTask, emptyTable, refusedWith, fromTasks, fromPolicy, sheetOf};
+ghost use Rattle.tasks.specs.Answers.{sheet_answer};
+ghost use Rattle.tasks.specs.Sheet.{field_at, task_of, task_at, with_task, empty_table, refused_with, from_tasks, from_policy, sheet_of};
 
 use crate::number::{Number, read_number};
 use crate::table::{LAST_POLICY, Table, breaks};
@@ -36,7 +36,7 @@ pub(crate) enum TaskRead {
 }
 
 fn empty_table(policy: u8, m: u8, n: u8) -> Table
-    ensures { result ≡ emptyTable policy m n }
+    ensures { result ≡ empty_table policy m n }
 {
     Table {
         policy,
@@ -50,7 +50,7 @@ fn empty_table(policy: u8, m: u8, n: u8) -> Table
 
 // The answer of a sheet that is refused.
 pub fn refused(why: u8) -> Sheet
-    ensures { result ≡ refusedWith why }
+    ensures { result ≡ refused_with why }
 {
     Sheet {
         answer: Reading::Refused(why),
@@ -89,7 +89,7 @@ fn task_of(work: usize, deadline: usize, gap: usize, next: usize) -> TaskRead
 }
 
 fn read_task(s: &[u8], at: usize) -> TaskRead
-    ensures { result ≡ taskAt s.now at }
+    ensures { result ≡ task_at s.now at }
 {
     match read_number(s, at) {
         Number::Refused(r) => TaskRead::Refused(r),
@@ -106,7 +106,7 @@ fn read_task(s: &[u8], at: usize) -> TaskRead
 // The table with the numbers of task i set.
 fn with_task(t: Table, i: usize, task: Task) -> Table
     requires { i < 8 }
-    ensures { result ≡ withTask t i task }
+    ensures { result ≡ with_task t i task }
 {
     let mut next = t;
     next.work[i] = task.work;
@@ -118,7 +118,7 @@ fn with_task(t: Table, i: usize, task: Task) -> Table
 // The tasks, and then the end.
 fn read_tasks(s: &[u8], from: usize, policy: u8, m: u8, n: u8) -> Sheet
     requires { n ≤ 8 }
-    ensures { result ≡ fromTasks s.now policy m n from }
+    ensures { result ≡ from_tasks s.now policy m n from }
 {
     let count = n as usize;
     let mut t = empty_table(policy, m, n);
@@ -147,7 +147,7 @@ fn read_tasks(s: &[u8], from: usize, policy: u8, m: u8, n: u8) -> Sheet
 
 // Policy, m and n, and then the tasks.
 fn read_header(s: &[u8], at: usize) -> Sheet
-    ensures { result ≡ fromPolicy s.now at }
+    ensures { result ≡ from_policy s.now at }
 {
     match read_field(s, at, 0, LAST_POLICY, 4) {
         Number::Refused(r) => refused(r),
@@ -163,7 +163,7 @@ fn read_header(s: &[u8], at: usize) -> Sheet
 
 // The table that a sheet gives, or the refusal of its first fault in reading order.
 pub fn read_sheet(s: &[u8]) -> Sheet
-    ensures { (sheetAnswer result ≡ sheetAnswer (sheetOf s.now)) × (result.table ≡ (sheetOf s.now).table) }
+    ensures { (sheet_answer result ≡ sheet_answer (sheet_of s.now)) × (result.table ≡ (sheet_of s.now).table) }
 {
     match read_field(s, 0, 3, 3, 3) {
         Number::Refused(r) => refused(r),

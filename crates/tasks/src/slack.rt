@@ -1,6 +1,6 @@
 // Whether a tick may make a job late, seen without a tick.
 ghost use Rattle.std.specs.Prelude.{◌≡◌};
-ghost use Rattle.tasks.specs.Tight.{tightJob, tight};
+ghost use Rattle.tasks.specs.Tight.{tight_job, tight};
 ghost use Rattle.tasks.specs.Words.{state_of};
 
 use crate::table::Table;
@@ -8,7 +8,7 @@ use crate::words::{gap_in, work_in};
 
 // Whether a job with these numbers has slack 0 or less.
 fn tight_job(deadline: u8, gap: u8, p: u8, c: u8) -> bool
-    ensures { result ≡ tightJob deadline gap p c }
+    ensures { result ≡ tight_job deadline gap p c }
 {
     (0 < c) & (jobs::slack_of(deadline, gap, p, c) < 1)
 }

@@ -1,8 +1,8 @@
 // The state by value: its release and run, the miss, and when it is proper.
 ghost use Rattle.std.specs.Prelude.{◌≡◌, ◌-◌, ◌<◌};
 ghost use Rattle.lists.specs.Lists.{count, any};
-ghost use Rattle.tasks.specs.State.{start, started, keeps, late, improperAt, improper};
-ghost use Rattle.tasks.specs.Tick.{bit, released, ran, missed, illegalAt, illegal};
+ghost use Rattle.tasks.specs.State.{start, started, keeps, late, improper_at, improper};
+ghost use Rattle.tasks.specs.Tick.{bit, released, ran, missed, illegal_at, illegal};
 
 use crate::table::Table;
 use crate::widths::either;
@@ -127,7 +127,7 @@ impl State {
     // Whether task i is not proper.
     fn improper_at(self, t: Table, i: usize) -> bool
         requires { i < 8 }
-        ensures { result ≡ improperAt t self i }
+        ensures { result ≡ improper_at t self i }
     {
         let c = self.c[i];
         let p = self.p[i];
@@ -138,7 +138,7 @@ impl State {
     }
 
     fn any_improper(self, t: Table) -> bool
-        ensures { result ≡ any 8 (improperAt t self) }
+        ensures { result ≡ any 8 (improper_at t self) }
     {
         let mut found = false;
         let mut i: usize = 0;
@@ -159,7 +159,7 @@ impl State {
     // Whether the mask's bit i is set for no task, or for one that may not be released yet.
     fn illegal_at(self, t: Table, mask: u8, i: usize) -> bool
         requires { i < 8 }
-        ensures { result ≡ illegalAt t self mask i }
+        ensures { result ≡ illegal_at t self mask i }
     {
         let p = self.p[i];
         let n = t.n as usize;

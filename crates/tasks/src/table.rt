@@ -1,7 +1,7 @@
 // The task table by value, and its faults.
 ghost use Rattle.std.specs.Prelude.{◌≡◌, ◌<◌};
 ghost use Rattle.lists.specs.Lists.{any};
-ghost use Rattle.tasks.specs.Table.{outside, breaks, faultAt, tableFault};
+ghost use Rattle.tasks.specs.Table.{outside, breaks, fault_at, table_fault};
 
 use crate::widths::wide;
 
@@ -37,7 +37,7 @@ impl Table {
     // Whether task i breaks 1 ≤ C ≤ D ≤ P ≤ 200, or an entry after the nth is not 0.
     fn fault_at(self, i: usize) -> bool
         requires { i < 8 }
-        ensures { result ≡ faultAt self i }
+        ensures { result ≡ fault_at self i }
     {
         let work = wide(self.work[i]);
         let deadline = wide(self.deadline[i]);
@@ -50,7 +50,7 @@ impl Table {
     }
 
     fn any_fault(self) -> bool
-        ensures { result ≡ any 8 (faultAt self) }
+        ensures { result ≡ any 8 (fault_at self) }
     {
         let mut found = false;
         let mut i: usize = 0;
@@ -63,7 +63,7 @@ impl Table {
 
     // The refusal of the table, 4 to 7, and 0 for a valid one.
     pub fn fault(self) -> u8
-        ensures { result ≡ tableFault self }
+        ensures { result ≡ table_fault self }
     {
         let policy = wide(self.policy);
         let m = outside(self.m);

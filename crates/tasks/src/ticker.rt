@@ -1,8 +1,8 @@
 // Many ticks with one table, on states in words.
 ghost use Rattle.std.specs.Prelude.{◌≡◌, ◌-◌, get_or, ltb};
 ghost use Rattle.lists.specs.Lists.{eight, pick};
-ghost use Rattle.jobs.specs.Place.{gapMask, workMask};
-ghost use Rattle.tasks.specs.Ticker.{readyIn, keepsIn, place_in, placesIn, kept_at, base_at, tickerOf, oldWord, preparedBy, selected, lowered, tickedBy, freeBy};
+ghost use Rattle.jobs.specs.Place.{gap_mask, work_mask};
+ghost use Rattle.tasks.specs.Ticker.{ready_in, keeps_in, place_in, places_in, kept_at, base_at, ticker_of, old_word, prepared_by, selected, lowered, ticked_by, free_by};
 
 use crate::state::State;
 use crate::table::Table;
@@ -40,14 +40,14 @@ fn less(x: u16, y: u16) -> u16
 
 // Whether the task of the word has a job with work left.
 fn ready_in(w: u16) -> bool
-    ensures { result ≡ readyIn w }
+    ensures { result ≡ ready_in w }
 {
     0 < w % 256
 }
 
 // Whether the job of the word, if there is one, keeps its processor: it has less work left than `kept`.
 fn keeps_in(kept: u16, w: u16) -> bool
-    ensures { result ≡ keepsIn kept w }
+    ensures { result ≡ keeps_in kept w }
 {
     w % 256 < kept
 }
@@ -61,13 +61,13 @@ fn place_in(bygap: u16, bywork: u16, kept: u16, base: u16, w: u16) -> u16
 }
 
 fn old_word(w: u16) -> u16
-    ensures { result ≡ oldWord w }
+    ensures { result ≡ old_word w }
 {
     w % 256 + 256 * less(w / 256, 1)
 }
 
 fn old_words(v: [u16; 8]) -> [u16; 8]
-    ensures { result ≡ eight (λ i. oldWord (get_or v i 0)) }
+    ensures { result ≡ eight (λ i. old_word (get_or v i 0)) }
 {
     let mut out = [0u16; 8];
     let mut i: usize = 0;
@@ -95,7 +95,7 @@ fn lowered(places: [u16; 8], words: [u16; 8], m: u16) -> [u16; 8]
 impl Ticker {
     // The places of the tasks of eight words.
     fn places(self, v: [u16; 8]) -> [u16; 8]
-        ensures { result ≡ placesIn self.bygap self.bywork self.kept self.base v }
+        ensures { result ≡ places_in self.bygap self.bywork self.kept self.base v }
     {
         let mut out = [0u16; 8];
         let mut i: usize = 0;
@@ -114,7 +114,7 @@ impl Ticker {
 
     // A state made ready.
     pub fn prepare(self, v: [u16; 8]) -> Prepared
-        ensures { result ≡ preparedBy self v }
+        ensures { result ≡ prepared_by self v }
     {
         let place = self.places(v);
         let word = old_words(v);
@@ -136,7 +136,7 @@ impl Ticker {
 
     // The words after a tick of a state made ready: release, choose, run.
     pub fn after(self, state: Prepared, mask: u8) -> [u16; 8]
-        ensures { result ≡ tickedBy self state mask }
+        ensures { result ≡ ticked_by self state mask }
     {
         let m = wide16(mask);
         let place = state.place;
@@ -150,7 +150,7 @@ impl Ticker {
 
     // The mask of all tasks that may be released. As a loop over the tasks it takes the compiler a few vector instructions.
     pub fn free(self, v: [u16; 8]) -> u8
-        ensures { result ≡ freeBy self v }
+        ensures { result ≡ free_by self v }
     {
         let mut mask: u16 = 0;
         let mut bit: u16 = 1;
@@ -193,7 +193,7 @@ fn bases(t: Table) -> [u16; 8]
 
 // The places of the tasks of eight words under a policy. Beside `Ticker::places`: the compiler keeps a loop with two callers out of line.
 fn new_places(policy: u8, kept: [u16; 8], base: [u16; 8], v: [u16; 8]) -> [u16; 8]
-    ensures { result ≡ placesIn (eight (λ i. gapMask policy)) (eight (λ i. workMask policy)) kept base v }
+    ensures { result ≡ places_in (eight (λ i. gap_mask policy)) (eight (λ i. work_mask policy)) kept base v }
 {
     let bygap = jobs::gap_mask(policy);
     let bywork = jobs::work_mask(policy);
@@ -222,7 +222,7 @@ fn limits(t: Table) -> [u16; 8]
 impl Table {
     // The table made ready.
     pub fn ticker(self) -> Ticker
-        ensures { result ≡ tickerOf self }
+        ensures { result ≡ ticker_of self }
     {
         let fresh = State::start().release(self, 255);
         let idle = fresh.run([false; 8]);

@@ -1,8 +1,8 @@
 // The writer of a sheet.
 ghost use Rattle.std.specs.Prelude.{◌≡◌, ◌+◌, ◌≤◌, ◌<◌, length};
 ghost use Rattle.std.proofs.lemmas.List.Edits.{sets};
-ghost use Rattle.tasks.specs.Answers.{writingAnswer};
-ghost use Rattle.tasks.specs.Sheet.{taskBytes, tasksBytes, sheetBytes, writeAnswer, writeOut};
+ghost use Rattle.tasks.specs.Answers.{writing_answer};
+ghost use Rattle.tasks.specs.Sheet.{task_bytes, tasks_bytes, sheet_bytes, write_answer, write_out};
 
 use crate::number::{number_len, put_number};
 use crate::table::Table;
@@ -16,14 +16,14 @@ pub enum Writing {
 
 fn task_len(t: Table, i: usize) -> usize
     requires { i < 8 }
-    ensures { (result ≡ length (taskBytes t i)) × (result ≤ 6) }
+    ensures { (result ≡ length (task_bytes t i)) × (result ≤ 6) }
 {
     number_len(t.work[i]) + number_len(t.deadline[i]) + number_len(t.gap[i])
 }
 
 fn tasks_len(t: Table) -> usize
     requires { t.n ≤ 8 }
-    ensures { (result ≡ length (tasksBytes t t.n 0)) × (result ≤ 48) }
+    ensures { (result ≡ length (tasks_bytes t t.n 0)) × (result ≤ 48) }
 {
     let n = t.n as usize;
     let mut total: usize = 0;
@@ -38,14 +38,14 @@ fn tasks_len(t: Table) -> usize
 // The length of the sheet of a table.
 fn sheet_len(t: Table) -> usize
     requires { t.n ≤ 8 }
-    ensures { result ≡ length (sheetBytes t) }
+    ensures { result ≡ length (sheet_bytes t) }
 {
     number_len(3) + number_len(t.policy) + number_len(t.m) + number_len(t.n) + tasks_len(t)
 }
 
 fn put_task(out: &mut [u8], at: usize, t: Table, i: usize) -> usize
-    requires { (i < 8) × (at + length (taskBytes t i) ≤ length out.old) }
-    ensures { (result ≡ at + length (taskBytes t i)) × (out.new ≡ sets out.old at (taskBytes t i)) }
+    requires { (i < 8) × (at + length (task_bytes t i) ≤ length out.old) }
+    ensures { (result ≡ at + length (task_bytes t i)) × (out.new ≡ sets out.old at (task_bytes t i)) }
 {
     let a = put_number(out, at, t.work[i]);
     let b = put_number(out, a, t.deadline[i]);
@@ -53,8 +53,8 @@ fn put_task(out: &mut [u8], at: usize, t: Table, i: usize) -> usize
 }
 
 fn put_tasks(out: &mut [u8], from: usize, t: Table)
-    requires { (t.n ≤ 8) × (from + length (tasksBytes t t.n 0) ≤ length out.old) }
-    ensures { out.new ≡ sets out.old from (tasksBytes t t.n 0) }
+    requires { (t.n ≤ 8) × (from + length (tasks_bytes t t.n 0) ≤ length out.old) }
+    ensures { out.new ≡ sets out.old from (tasks_bytes t t.n 0) }
 {
     let n = t.n as usize;
     let mut at = from;
@@ -66,8 +66,8 @@ fn put_tasks(out: &mut [u8], from: usize, t: Table)
 }
 
 fn put_sheet(out: &mut [u8], t: Table)
-    requires { (t.n ≤ 8) × (length (sheetBytes t) ≤ length out.old) }
-    ensures { out.new ≡ sets out.old 0 (sheetBytes t) }
+    requires { (t.n ≤ 8) × (length (sheet_bytes t) ≤ length out.old) }
+    ensures { out.new ≡ sets out.old 0 (sheet_bytes t) }
 {
     let a = put_number(out, 0, 3);
     let b = put_number(out, a, t.policy);
@@ -78,7 +78,7 @@ fn put_sheet(out: &mut [u8], t: Table)
 
 // Writes the sheet of a table to the front of the output.
 pub fn write_sheet(t: Table, out: &mut [u8]) -> Writing
-    ensures { (writingAnswer result ≡ writeAnswer t out.old) × (out.new ≡ writeOut t out.old) }
+    ensures { (writing_answer result ≡ write_answer t out.old) × (out.new ≡ write_out t out.old) }
 {
     let fault = t.fault();
     if 0 < fault {

@@ -4,35 +4,35 @@ use mir.Val.{bool_byte}
 use Rattle.lists.specs.Lists.{pick}
 use Rattle.tasks.specs.declared.table.Table.{Table}
 use Rattle.lists.proofs.Bools.{by_bool}
-use Rattle.ticks.specs.Ticks.{table_of, stateIn, figure, tickOf, sum, pairs, ticksSum}
+use Rattle.ticks.specs.Ticks.{table_of, state_in, figure, tick_of, sum, pairs, ticks_sum}
 
-pub bool-number : (b : Bool) → bool_byte b ≡ pick b 1 0
-bool-number true = refl
-bool-number false = refl
+pub bool_number : (b : Bool) → bool_byte b ≡ pick b 1 0
+bool_number true = refl
+bool_number false = refl
 
 module _ (states masks : List ℕ) where
-  pub pairs-room : (k : ℕ) → k < pairs states masks → (16 * k + 16 ≤ length states) × (k < length masks)
+  pub pairs_room : (k : ℕ) → k < pairs states masks → (16 * k + 16 ≤ length states) × (k < length masks)
   unfolding pairs
-  pairs-room k h =
+  pairs_room k h =
       by_bool (ltb (length states / 16) (length masks))
       (λ e. let q : k < length states / 16 = rw e at h in (omega arith, omega (arith, ltb-true (length states / 16) (length masks) e)))
       (λ e. let q : k < length masks = rw e at h in (omega (arith, ltb-false (length states / 16) (length masks) e), q))
 
   module _ (t : Table) where
-    pub sum-start : 0 ≡ sum t states masks 0
+    pub sum_start : 0 ≡ sum t states masks 0
     unfolding sum
-    sum-start = refl
+    sum_start = refl
 
     pub sum-turn :
-        {x f : ℕ} (k : ℕ) → x ≡ sum t states masks k → f ≡ figure t (tickOf t (stateIn states k) (get_or masks k 0))
+        {x f : ℕ} (k : ℕ) → x ≡ sum t states masks k → f ≡ figure t (tick_of t (state_in states k) (get_or masks k 0))
         → (x + f) % 2 ^ 64 ≡ sum t states masks (k + 1)
     unfolding sum
     sum-turn k e h = rw (add-one, e, h)
 
     pub sum-end :
         (table : List ℕ) {x n : ℕ} (k : ℕ) → x ≡ sum t states masks k → k ≤ n → n ≤ k → n ≡ pairs states masks → t ≡ table_of table → 27 ≤ length table
-        → x ≡ ticksSum table states masks
-    unfolding ticksSum
+        → x ≡ ticks_sum table states masks
+    unfolding ticks_sum
     sum-end table k e a b p h l =
         let q : k ≡ pairs states masks = omega arith in
         e ∙ rw (le-ltb (length table) 27 l, q, h)

@@ -1,7 +1,7 @@
 // Many ticks in one call, for the comparison of speed with a native tick (bench/README.md). No part of the engine.
 ghost use Rattle.std.specs.Prelude.{◌≡◌, ◌+◌, ◌*◌, ◌≤◌, length};
-ghost use Rattle.ticks.specs.Ticks.{bytesFrom, table_of, stateIn, word, figure, pairs, ticksSum};
-ghost use Rattle.tasks.specs.Ticker.{preparedBy, tickedBy};
+ghost use Rattle.ticks.specs.Ticks.{bytes_from, table_of, state_in, word, figure, pairs, ticks_sum};
+ghost use Rattle.tasks.specs.Ticker.{prepared_by, ticked_by};
 ghost use Rattle.tasks.specs.Words.{words_of, state_of};
 
 use tasks::{State, Table, Ticker, wide};
@@ -22,7 +22,7 @@ fn word(a: [u8; 8]) -> u64
 // Eight bytes from a place on.
 fn bytes_from(b: &[u8], at: usize) -> [u8; 8]
     requires { at + 8 ≤ length b.now }
-    ensures { result ≡ bytesFrom b.now at }
+    ensures { result ≡ bytes_from b.now at }
 {
     let mut a = [0u8; 8];
     let mut i: usize = 0;
@@ -51,7 +51,7 @@ fn table_of(b: &[u8]) -> Table
 // State k of those in the bytes.
 fn state_at(b: &[u8], k: usize) -> State
     requires { 16 * k + 16 ≤ length b.now }
-    ensures { result ≡ stateIn b.now k }
+    ensures { result ≡ state_in b.now k }
 {
     let at = 16 * k;
     State {
@@ -62,7 +62,7 @@ fn state_at(b: &[u8], k: usize) -> State
 
 // The words after a tick, by a table made ready.
 fn ticked(ticker: Ticker, s: State, mask: u8) -> [u16; 8]
-    ensures { result ≡ tickedBy ticker (preparedBy ticker (words_of s)) mask }
+    ensures { result ≡ ticked_by ticker (prepared_by ticker (words_of s)) mask }
 {
     let ready = ticker.prepare(s.words());
     ticker.after(ready, mask)
@@ -95,7 +95,7 @@ fn pairs(states: &[u8], masks: &[u8]) -> usize
 // loop: a function with two callers is kept out of line, so the table made ready stays in memory and its eight numbers are read at once, as in the search.
 #[unsafe(no_mangle)]
 pub extern "C" fn ticks(table: &[u8], states: &[u8], masks: &[u8]) -> u64
-    ensures { result ≡ ticksSum table.now states.now masks.now }
+    ensures { result ≡ ticks_sum table.now states.now masks.now }
 {
     if table.len() < 27 {
         return 0;

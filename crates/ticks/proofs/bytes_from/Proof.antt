@@ -1,5 +1,5 @@
 use Rattle.std.proofs.Common.{◌+◌, ◌-◌, ◌≤◌, get_or, refl, arith, rules}
-use Rattle.lists.proofs.Fill.{Filled, filled-start, filled-store, filled-end}
+use Rattle.lists.proofs.Fill.{Filled, filled_start, filled_store, filled_end}
 use Rattle.ticks.proofs.bytes_from.Statement.{statement}
 use Rattle.ticks.proofs.bytes_from.Tie as tie
 
@@ -10,7 +10,7 @@ abbrev decreases-loop : tie.decreases-loop
 decreases-loop b at a₀ i₀ a i = 8 - i
 
 loop-holds : tie.Need-loop-init invariant-loop decreases-loop
-loop-holds c = (omega arith, filled-start refl)
+loop-holds c = (omega arith, filled_start refl)
 
 add_a : tie.Need-overflow-add-a invariant-loop decreases-loop
 add_a c = search rules
@@ -28,10 +28,10 @@ loop-less : tie.Need-loop-smaller invariant-loop decreases-loop
 loop-less c = search rules
 
 loop-again : tie.Need-loop-preserved invariant-loop decreases-loop
-loop-again c = (omega arith, filled-store c.before.before.loop.invariant.1 (omega arith) refl)
+loop-again c = (omega arith, filled_store c.before.before.loop.invariant.1 (omega arith) refl)
 
 returns : tie.Need-returns invariant-loop decreases-loop
-returns c = filled-end c.before.loop.invariant.1 c.loop-test.false
+returns c = filled_end c.before.loop.invariant.1 c.loop-test.false
 
 pub bytes-from-spec : {M : Type 1} → statement M
 bytes-from-spec =

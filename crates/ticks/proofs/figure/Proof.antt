@@ -1,5 +1,5 @@
 use Rattle.ticks.specs.Ticks.{figure}
-use Rattle.ticks.proofs.Sums.{bool-number}
+use Rattle.ticks.proofs.Sums.{bool_number}
 use Rattle.std.proofs.Common.{rules}
 use Rattle.ticks.proofs.figure.Statement.{statement}
 use Rattle.ticks.proofs.figure.Tie as tie
@@ -30,7 +30,7 @@ unfolding figure
 returns c =
     let m = c.before in
     rw
-    (c.wrapping-add-u642.ensures, m.before.wrapping-add-u64.ensures, m.before.before.before.word.ensures, m.before.before.word2.ensures, bool-number m.misses.result, m.misses.ensures, m.before.before.before.before.before.before.of_words.ensures)
+    (c.wrapping-add-u642.ensures, m.before.wrapping-add-u64.ensures, m.before.before.before.word.ensures, m.before.before.word2.ensures, bool_number m.misses.result, m.misses.ensures, m.before.before.before.before.before.before.of_words.ensures)
 
 pub figure-spec : {M : Type 1} → statement M
 figure-spec =

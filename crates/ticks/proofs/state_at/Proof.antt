@@ -1,4 +1,4 @@
-use Rattle.ticks.specs.Ticks.{stateIn}
+use Rattle.ticks.specs.Ticks.{state_in}
 use Rattle.std.proofs.Common.{rules}
 use Rattle.ticks.proofs.state_at.Statement.{statement}
 use Rattle.ticks.proofs.state_at.Tie as tie
@@ -16,8 +16,8 @@ bytes-from-requires-2 : tie.Need-bytes-from-requires-2
 bytes-from-requires-2 c κs = search rules
 
 returns : tie.Need-returns
-unfolding stateIn
-returns c = rw (c.before.bytes-from.ensures, c.bytes-from2.ensures)
+unfolding state_in
+returns c = rw (c.before.bytes_from_lem.ensures, c.bytes-from2.ensures)
 
 pub state-at-spec : {M : Type 1} → statement M
 state-at-spec =

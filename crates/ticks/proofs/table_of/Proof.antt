@@ -23,7 +23,7 @@ bytes-from-requires-3 c κs = search rules
 
 returns : tie.Need-returns
 unfolding table_of
-returns c = rw (c.before.before.bytes-from.ensures, c.before.bytes-from2.ensures, c.bytes-from3.ensures)
+returns c = rw (c.before.before.bytes_from_lem.ensures, c.before.bytes-from2.ensures, c.bytes-from3.ensures)
 
 pub table-of-spec : {M : Type 1} → statement M
 table-of-spec =

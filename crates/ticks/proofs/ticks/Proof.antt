@@ -1,6 +1,6 @@
 use Rattle.std.proofs.Common.{◌≡◌, ℕ, zero, suc, ◌-◌, ◌<◌, ◌≤◌, refl, arith, rules, lt-ltb}
-use Rattle.ticks.specs.Ticks.{tickOf, sum, ticksSum}
-use Rattle.ticks.proofs.Sums.{pairs-room, sum-start, sum-turn, sum-end}
+use Rattle.ticks.specs.Ticks.{tick_of, sum, ticks_sum}
+use Rattle.ticks.proofs.Sums.{pairs_room, sum_start, sum-turn, sum-end}
 use Rattle.ticks.proofs.ticks.Statement.{statement}
 use Rattle.ticks.proofs.ticks.Tie as tie
 
@@ -15,7 +15,7 @@ abbrev decreases-loop : tie.decreases-loop
 decreases-loop table states masks t ticker n total₀ k₀ total k = n - k
 
 returns : tie.Need-returns invariant-loop decreases-loop
-unfolding ticksSum
+unfolding ticks_sum
 returns c = rw (lt-ltb _ _ c.if1.true)
 
 table-of-requires : tie.Need-table-of-requires invariant-loop decreases-loop
@@ -31,16 +31,16 @@ returns-2 : tie.Need-returns-2 invariant-loop decreases-loop
 returns-2 c =
     let p = c.before in
     let made = p.before.before in
-    sum-end _ _ _ _ 0 (sum-start _ _ _) (omega arith) (omega arith) p.pairs.ensures made.table_of.ensures (omega arith)
+    sum-end _ _ _ _ 0 (sum_start _ _ _) (omega arith) (omega arith) p.pairs.ensures made.table_of.ensures (omega arith)
 
 state-at-requires : tie.Need-state-at-requires invariant-loop decreases-loop
 state-at-requires c κs =
-    (pairs-room _ _ 0 (rw c.before.pairs.ensures at (above _ c.if2.false))).0
+    (pairs_room _ _ 0 (rw c.before.pairs.ensures at (above _ c.if2.false))).0
 
 shared-slice-read-ticked : tie.Need-shared-slice-read-ticked invariant-loop decreases-loop
 shared-slice-read-ticked c =
     let h = c.before.before in
-    (pairs-room _ _ 0 (rw h.before.pairs.ensures at (above _ h.if2.false))).1
+    (pairs_room _ _ 0 (rw h.before.pairs.ensures at (above _ h.if2.false))).1
 
 ticked-requires : tie.Need-ticked-requires invariant-loop decreases-loop
 ticked-requires c κs = search rules
@@ -52,23 +52,23 @@ wrapping-add-u64-requires : tie.Need-wrapping-add-u64-requires invariant-loop de
 wrapping-add-u64-requires c κs = search rules
 
 loop-holds : tie.Need-loop-init invariant-loop decreases-loop
-unfolding tickOf
+unfolding tick_of
 loop-holds c =
     let tick = c.before.before in
     let at = tick.before.before in
     let ready = at.before.before.before in
     let ne = at.before.if2.false in
-    (omega (arith, above _ ne), rw c.wrapping-add-u64.ensures (sum-turn _ _ _ 0 (sum-start _ _ _) (rw (c.before.figure.ensures, tick.ticked.ensures, ready.ticker.ensures, at.state-at.ensures))))
+    (omega (arith, above _ ne), rw c.wrapping-add-u64.ensures (sum-turn _ _ _ 0 (sum_start _ _ _) (rw (c.before.figure.ensures, tick.ticked.ensures, ready.ticker.ensures, at.state-at.ensures))))
 
 state-at-requires-2 : tie.Need-state-at-requires-2 invariant-loop decreases-loop
 state-at-requires-2 c κs =
     let first = c.before.before in
-    (pairs-room _ _ _ (rw first.before.before.before.before.before.before.pairs.ensures at c.loop-test.true)).0
+    (pairs_room _ _ _ (rw first.before.before.before.before.before.before.pairs.ensures at c.loop-test.true)).0
 
 shared-slice-read-ticked-2 : tie.Need-shared-slice-read-ticked-2 invariant-loop decreases-loop
 shared-slice-read-ticked-2 c =
     let h = c.before.before in
-    (pairs-room _ _ _ (rw h.before.before.before.before.before.before.before.before.pairs.ensures at h.loop-test.true)).1
+    (pairs_room _ _ _ (rw h.before.before.before.before.before.before.before.before.pairs.ensures at h.loop-test.true)).1
 
 ticked-requires-2 : tie.Need-ticked-requires-2 invariant-loop decreases-loop
 ticked-requires-2 c κs = search rules
@@ -86,7 +86,7 @@ loop-less : tie.Need-loop-smaller invariant-loop decreases-loop
 loop-less c = search rules
 
 loop-again : tie.Need-loop-preserved invariant-loop decreases-loop
-unfolding tickOf
+unfolding tick_of
 loop-again c =
     let tick = c.before.before in
     let at = tick.before.before in

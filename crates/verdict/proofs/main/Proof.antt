@@ -12,8 +12,8 @@ use Rattle.verdict.proofs.main.Statement.{statement}
 use Rattle.verdict.proofs.main.Tie as tie
 
 -- the text is at the front of the output
-judged-fits : {sheet out out' : List ℕ} {n : ℕ} → Judged sheet out out' n → n ≤ length out'
-judged-fits {sheet} {out} {out'} {n} j =
+judged_fits : {sheet out out' : List ℕ} {n : ℕ} → Judged sheet out out' n → n ≤ length out'
+judged_fits {sheet} {out} {out'} {n} j =
     omega (arith, j.long, ap length j.text, length-append (lines_of j.answer j.trace') (drop n out))
 
 slice-aggregate-read-full : tie.Need-slice-aggregate-read-full
@@ -32,10 +32,10 @@ judge-requires : tie.Need-judge-requires
 judge-requires c κs = search rules
 
 array-share-prefix-out : tie.Need-array-share-prefix-out
-array-share-prefix-out c = judged-fits c.judge.ensures
+array-share-prefix-out c = judged_fits c.judge.ensures
 
 slice-aggregate-write-all : tie.Need-slice-aggregate-write-all
-slice-aggregate-write-all c = sym (length-take-le c.before.judge.result c.before.judge.new.1.0 (judged-fits c.before.judge.ensures))
+slice-aggregate-write-all c = sym (length-take-le c.before.judge.result c.before.judge.new.1.0 (judged_fits c.before.judge.ensures))
 
 write-all-requires : tie.Need-write-all-requires
 write-all-requires c κs = search rules

@@ -1,7 +1,7 @@
 -- The place is compared with the key. Assumes nothing.
 use Prim.Native.Nat.{◌%◌}
 use mathlib.Core.Path.{ap, ◌∙◌}
-use Rattle.states.specs.Keys.{sameKeys}
+use Rattle.states.specs.Keys.{same_keys}
 use Rattle.closed.proofs.FileLaws.{named}
 use native.Mathlib.Omega.{arith}
 use borrow.Author.Rules.{rules}
@@ -24,7 +24,7 @@ same-keys-requires c κs = search rules
 returns-2 : tie.Need-returns-2
 returns-2 c =
     let a = c.before.before.before.before.args in
-    named a.file.now (a.cell % 16777216) a.key c.same_keys.result (omega (arith, c.before.before.if1.false)) (c.same_keys.ensures ∙ ap (λ k. sameKeys k a.key) c.before.key_in.ensures)
+    named a.file.now (a.cell % 16777216) a.key c.same_keys.result (omega (arith, c.before.before.if1.false)) (c.same_keys.ensures ∙ ap (λ k. same_keys k a.key) c.before.key_in.ensures)
 
 pub names-spec : {M : Type 1} → statement M
 names-spec = tie.close (tie.spec cast-i returns key-in-requires same-keys-requires returns-2)

@@ -3,9 +3,9 @@ use Prim.Native.Nat.{◌-◌, ◌≤◌}
 use mathlib.Core.Path.{◌≡◌}
 use mathlib.Core.Bool.{true, false}
 use borrow.Author.Tests.{not-true, not-false}
-use Rattle.states.specs.Bytes.{stateIn}
+use Rattle.states.specs.Bytes.{state_in}
 use Rattle.closed.specs.Keeping.{StateIs}
-use Rattle.closed.proofs.RowLaws.{SoundTo, sound-start, sound-next, sound-end, not_sound}
+use Rattle.closed.proofs.RowLaws.{SoundTo, sound_start, sound_next, sound_end, not_sound}
 use native.Mathlib.Omega.{arith}
 use borrow.Author.Rules.{rules}
 use Rattle.closed.proofs.check.all_sound.Statement.{statement}
@@ -19,12 +19,12 @@ decreases-loop t ticker file n i₀ i = n - i
 
 -- what the test says of the state
 told :
-    (c : tie.After-is-sound invariant-loop decreases-loop) → StateIs c.before.before.before.before.before.args.t (stateIn c.before.before.before.before.before.args.file.now c.before.before.before.loop.i) c.is-sound.result
+    (c : tie.After-is-sound invariant-loop decreases-loop) → StateIs c.before.before.before.before.before.args.t (state_in c.before.before.before.before.before.args.file.now c.before.before.before.loop.i) c.is-sound.result
 told c = rw c.before.words-in.ensures at c.is-sound.ensures
 
 loop-holds : tie.Need-loop-init invariant-loop decreases-loop
 loop-holds c =
-    (omega arith, sound-start _ _)
+    (omega arith, sound_start _ _)
 
 words-in-requires : tie.Need-words-in-requires invariant-loop decreases-loop
 words-in-requires c κs =
@@ -50,12 +50,12 @@ loop-again : tie.Need-loop-preserved invariant-loop decreases-loop
 loop-again c =
     let s = c.before.before.before.before.before.before in
     let yes : c.before.is-sound.result ≡ true = not-false c.before.is-sound.result c.if1.false in
-    (omega (arith, c.before.before.before.loop-test.true), sound-next s.args.t s.args.file.now c.before.before.before.before.loop.invariant.1 (rw yes at (told c.before)))
+    (omega (arith, c.before.before.before.loop-test.true), sound_next s.args.t s.args.file.now c.before.before.before.before.loop.invariant.1 (rw yes at (told c.before)))
 
 returns-2 : tie.Need-returns-2 invariant-loop decreases-loop
 returns-2 c =
     let s = c.before.before.before in
-    sound-end s.args.t s.args.file.now c.before.loop.invariant.1 s.requires.0.is c.loop-test.false
+    sound_end s.args.t s.args.file.now c.before.loop.invariant.1 s.requires.0.is c.loop-test.false
 
 pub all-sound-spec : {M : Type 1} → statement M
 all-sound-spec =

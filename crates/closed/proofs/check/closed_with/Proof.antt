@@ -4,8 +4,8 @@ use mathlib.Core.Bool.{true, false}
 use borrow.Author.Tests.{not-true, not-false}
 use Rattle.tasks.specs.State.{start}
 use Rattle.tasks.specs.Words.{state_of}
-use Rattle.states.proofs.ColumnLaws.{held, held-key}
-use Rattle.closed.proofs.FileLaws.{start-bytes}
+use Rattle.states.proofs.ColumnLaws.{held, held_key}
+use Rattle.closed.proofs.FileLaws.{start_bytes}
 use Rattle.closed.proofs.AnswerLaws.{closed_is}
 use borrow.Author.Rules.{rules}
 use Rattle.closed.proofs.check.closed_with.Statement.{statement}
@@ -36,7 +36,7 @@ returns-2 c =
     let s = c.before.before.before.before.before.before.before.before in
     let none : c.before.scan.result ≡ false = not-true c.before.scan.result c.if2.true in
     let absent = rw none at c.before.scan.ensures in
-    λ x. absent (rw (c.before.before.key_of.ensures, s.requires.0.is) (held-key s.args.file.now start x.begins))
+    λ x. absent (rw (c.before.before.key_of.ensures, s.requires.0.is) (held_key s.args.file.now start x.begins))
 
 split-of-requires : tie.Need-split-of-requires
 split-of-requires c κs = search rules
@@ -58,7 +58,7 @@ returns-3 c =
     let found : c.before.before.before.before.before.before.scan.result ≡ true = not-false c.before.before.before.before.before.before.scan.result c.before.before.before.before.before.if2.false in
     let h = rw found at c.before.before.before.before.before.before.scan.ensures in
     closed_is s.args.t s.args.file.now c.before.before.all-inside.result s.requires.0.valid (rw sound at c.before.before.before.before.before.before.before.before.before.All-sound.ensures)
-    (rw (← s.requires.0.is) (held s.args.file.now start c.before.before.before.before.before.before.before.before.before.before.before.before.shared-slice-known.given start-bytes (rw c.before.before.before.before.before.before.before.key_of.ensures at h)))
+    (rw (← s.requires.0.is) (held s.args.file.now start c.before.before.before.before.before.before.before.before.before.before.before.before.shared-slice-known.given start_bytes (rw c.before.before.before.before.before.before.before.key_of.ensures at h)))
     c.before.before.all-inside.ensures
 
 pub closed-with-spec : {M : Type 1} → statement M

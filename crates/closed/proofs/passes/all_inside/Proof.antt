@@ -5,7 +5,7 @@ use mathlib.Core.Bool.{true, false}
 use borrow.Author.Tests.{not-true, not-false}
 use lib.ListN.{length}
 use Rattle.closed.specs.Keeping.{Inside}
-use Rattle.closed.proofs.InsideLaws.{BandsTo, bands-start, bands-next, bands-end}
+use Rattle.closed.proofs.InsideLaws.{BandsTo, bands_start, bands_next, bands_end}
 use Rattle.closed.proofs.RowLaws.{ready-cells}
 use native.Mathlib.Omega.{arith}
 use Rattle.closed.proofs.passes.all_inside.Statement.{statement}
@@ -23,7 +23,7 @@ width-requires c κs =
 
 loop-holds : tie.Need-loop-init invariant-loop decreases-loop
 loop-holds c =
-    (refl, bands-start _ _ _)
+    (refl, bands_start _ _ _)
 
 add-high : tie.Need-overflow-add-high invariant-loop decreases-loop
 add-high c =
@@ -51,7 +51,7 @@ loop-again : tie.Need-loop-preserved invariant-loop decreases-loop
 loop-again c =
     let a = c.before.before.before.before.before.before.before.before.before.before.before.args in
     let yes : c.before.before.before.band-inside.result ≡ true = not-false c.before.before.before.band-inside.result c.if2.false in
-    (c.before.before.before.band-inside.ensures.0 ∙ c.before.before.before.before.before.before.before.loop.invariant.0, bands-next a.t a.file.now a.split c.before.before.before.before.before.before.before.loop.invariant.1 (rw yes at c.before.before.before.band-inside.ensures.1))
+    (c.before.before.before.band-inside.ensures.0 ∙ c.before.before.before.before.before.before.before.loop.invariant.0, bands_next a.t a.file.now a.split c.before.before.before.before.before.before.before.loop.invariant.1 (rw yes at c.before.before.before.band-inside.ensures.1))
 
 same-length-2 : tie.Need-same-length-2 invariant-loop decreases-loop
 same-length-2 c =
@@ -60,7 +60,7 @@ same-length-2 c =
 returns-2 : tie.Need-returns-2 invariant-loop decreases-loop
 returns-2 c =
     let a = c.before.before.before.before.before.before.args in
-    bands-end a.t a.file.now a.split c.before.before.loop.invariant.1 (omega (arith, c.if1.false))
+    bands_end a.t a.file.now a.split c.before.before.loop.invariant.1 (omega (arith, c.if1.false))
 
 pub all-inside-spec : {M : Type 1} → statement M
 all-inside-spec =

@@ -5,7 +5,7 @@ use mathlib.Core.Bool.{true, false}
 use borrow.Author.Tests.{not-true, not-false}
 use lib.ListN.{length}
 use Rattle.closed.specs.Keeping.{Inside}
-use Rattle.closed.proofs.InsideLaws.{ClassesTo, classes-start, classes-next, classes-end}
+use Rattle.closed.proofs.InsideLaws.{ClassesTo, classes_start, classes-next, classes_end}
 use Rattle.closed.proofs.RowLaws.{ready-cells}
 use native.Mathlib.Omega.{arith}
 use borrow.Author.Rules.{rules}
@@ -29,7 +29,7 @@ add-classes c =
 
 loop-holds : tie.Need-loop-init invariant-loop decreases-loop
 loop-holds c =
-    (omega arith, refl, classes-start _ _ _ _ _ _)
+    (omega arith, refl, classes_start _ _ _ _ _ _)
 
 index-pass-requires : tie.Need-index-pass-requires invariant-loop decreases-loop
 index-pass-requires c κs =
@@ -72,7 +72,7 @@ same-length-2 c =
 returns-2 : tie.Need-returns-2 invariant-loop decreases-loop
 returns-2 c =
     let a = c.before.before.before.before.before.args in
-    (c.before.loop.invariant.1, classes-end a.t a.file.now a.split a.low a.high _ c.before.loop.invariant.2 (omega arith) c.loop-test.false)
+    (c.before.loop.invariant.1, classes_end a.t a.file.now a.split a.low a.high _ c.before.loop.invariant.2 (omega arith) c.loop-test.false)
 
 pub band-inside-spec : {M : Type 1} → statement M
 band-inside-spec =

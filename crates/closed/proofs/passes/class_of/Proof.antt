@@ -1,15 +1,15 @@
 -- One class, or the rest of a hash. Assumes nothing.
 use mathlib.Core.Path.{ap}
 use Prim.Native.Nat.{◌+◌, ◌/◌, ◌%◌}
-use Rattle.closed.specs.Keeping.{classOf}
-use Rattle.closed.proofs.PassLaws.{class-one}
+use Rattle.closed.specs.Keeping.{class_of}
+use Rattle.closed.proofs.PassLaws.{class_one}
 use borrow.Author.Rules.{rules}
 use Rattle.closed.proofs.passes.class_of.Statement.{statement}
 use Rattle.closed.proofs.passes.class_of.Tie as tie
 
 returns : tie.Need-returns
 returns c =
-    class-one c.before.args.key c.if1.true
+    class_one c.before.args.key c.if1.true
 
 mix-requires : tie.Need-mix-requires
 mix-requires c κs = search rules
@@ -21,7 +21,7 @@ rem-result : tie.Need-nonzero-rem-result
 rem-result c = search rules
 
 returns-2 : tie.Need-returns-2
-unfolding classOf
+unfolding class_of
 returns-2 c =
     ap (λ x. (x / 4294967296 + x % 4294967296) / 262144 % c.before.before.args.classes) c.mix.ensures
 

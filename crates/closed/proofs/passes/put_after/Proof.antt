@@ -2,12 +2,12 @@
 use mathlib.Core.Path.{ap, ◌∙◌}
 use borrow.Author.Tests.{not-true}
 use Rattle.tasks.specs.Words.{state_of}
-use Rattle.tasks.specs.Ticker.{tickedBy}
+use Rattle.tasks.specs.Ticker.{ticked_by}
 use Rattle.lists.proofs.Bools.{clash}
-use Rattle.states.specs.Keys.{keyOf}
+use Rattle.states.specs.Keys.{key_of}
 use Rattle.states.proofs.WordLaws.{word_bytes}
-use Rattle.closed.specs.Keeping.{classOf}
-use Rattle.closed.proofs.PendingLaws.{after-not, after-added}
+use Rattle.closed.specs.Keeping.{class_of}
+use Rattle.closed.proofs.PendingLaws.{after_not, after_added}
 use native.Mathlib.Omega.{arith}
 use borrow.Author.Rules.{rules}
 use Rattle.closed.proofs.passes.put_after.Statement.{statement}
@@ -16,7 +16,7 @@ use Rattle.closed.proofs.passes.put_after.Tie as tie
 returns : tie.Need-returns
 returns c =
     let a = c.before.before.args in
-    (omega arith, after-not a.pass a.due (state_of (tickedBy a.ticker a.state a.mask)) a.pending.now a.count (λ due is. clash due (not-true _ c.if1.true)))
+    (omega arith, after_not a.pass a.due (state_of (ticked_by a.ticker a.state a.mask)) a.pending.now a.count (λ due is. clash due (not-true _ c.if1.true)))
 
 after-requires : tie.Need-after-requires
 after-requires c κs = search rules
@@ -41,16 +41,16 @@ returns-2 c =
     let a = c.before.before.before.before.before.before.before.before.before.before.before.args in
     let v = c.before.before.before.before.before.before.before.before.after.result in
     rw (← c.before.before.before.before.before.before.before.before.after.ensures)
-    (omega arith, after-added a.pass a.due (state_of v) (word_bytes v (λ k b. search rules)) c.before.before.before.before.before.before.before.key_of.ensures c.before.before.put-key.ensures)
+    (omega arith, after_added a.pass a.due (state_of v) (word_bytes v (λ k b. search rules)) c.before.before.before.before.before.before.before.key_of.ensures c.before.before.put-key.ensures)
 
 returns-3 : tie.Need-returns-3
 returns-3 c =
     let a = c.before.before.before.before.before.before.before.args in (
       omega arith,
-      after-not a.pass a.due (state_of (tickedBy a.ticker a.state a.mask)) a.pending.now a.count
+      after_not a.pass a.due (state_of (ticked_by a.ticker a.state a.mask)) a.pending.now a.count
           (λ due is. c.if2.false
-          (c.before.before.class_of.ensures ∙ ap (classOf a.pass.classes) c.before.before.before.key_of.ensures
-          ∙ ap (λ v. classOf a.pass.classes (keyOf (state_of v))) c.before.before.before.before.after.ensures ∙ is)),
+          (c.before.before.class_of.ensures ∙ ap (class_of a.pass.classes) c.before.before.before.key_of.ensures
+          ∙ ap (λ v. class_of a.pass.classes (key_of (state_of v))) c.before.before.before.before.after.ensures ∙ is)),
     )
 
 pub put-after-spec : {M : Type 1} → statement M

@@ -7,14 +7,14 @@ use lib.Dec.{leb, ltb}
 use lib.ListN.{length, get_or}
 use Rattle.tasks.specs.State.{improper}
 use Rattle.tasks.specs.Tick.{after}
-use Rattle.tasks.specs.Masks.{freeMask}
+use Rattle.tasks.specs.Masks.{free_mask}
 use Rattle.tasks.specs.Words.{state_of}
 use Rattle.tasks.proofs.InWords.{WordList}
 use Rattle.tasks.proofs.Free.{ticks, frees}
-use Rattle.states.proofs.MaskLaws.{walked-falls}
-use Rattle.states.specs.Bytes.{stateIn}
+use Rattle.states.proofs.MaskLaws.{walked_falls}
+use Rattle.states.specs.Bytes.{state_in}
 use Rattle.closed.specs.Keeping.{landing}
-use Rattle.closed.proofs.RowLaws.{RowTo, Row, row-start, row_next, row-skipped, row-end}
+use Rattle.closed.proofs.RowLaws.{RowTo, Row, row_start, row_next, row-skipped, row_end}
 use native.Mathlib.Omega.{arith}
 use borrow.Author.Rules.{rules}
 use Rattle.closed.proofs.passes.row_pending.Statement.{statement}
@@ -51,12 +51,12 @@ row l =
     let s = start l in
     let w = l.before.before.before.before.before.before.before.before.before in
     let g = l.before.before.before.before.before.before.before.before in
-    let here : state_of w.words-in.result ≡ stateIn s.args.file.now s.args.i = w.words-in.ensures in
+    let here : state_of w.words-in.result ≡ state_in s.args.file.now s.args.i = w.words-in.ensures in
     record {
       keeps = due-is g false l.before.before.before.before.before.before.between.ensures l.before.before.before.before.before.before.before.landing.ensures;
       releases = due-is g true l.before.before.before.before.between2.ensures l.before.before.before.before.before.landing2.ensures;
       ticks = λ q. ticks s.args.t _ s.pre.1 l.before.prepare.ensures s.pre.0.valid (ap (improper s.args.t) here ∙ s.pre.5) (word-list w) q ∙ ap (λ u. after s.args.t u q) here;
-      frees = frees s.args.t _ s.pre.1 l.before.before.free.ensures ∙ ap (freeMask s.args.t) here;
+      frees = frees s.args.t _ s.pre.1 l.before.before.free.ensures ∙ ap (free_mask s.args.t) here;
     }
 
 words-in-requires : tie.Need-words-in-requires invariant-loop decreases-loop
@@ -98,7 +98,7 @@ prepare-requires c κs = search rules
 
 loop-holds : tie.Need-loop-init invariant-loop decreases-loop
 loop-holds c =
-    (omega arith, refl, row-start (omega (arith, c.before.free.type-inv)) _ _)
+    (omega arith, refl, row_start (omega (arith, c.before.free.type-inv)) _ _)
 
 cast-mask : tie.Need-overflow-cast-mask invariant-loop decreases-loop
 cast-mask c = search rules
@@ -118,7 +118,7 @@ follow-requires c κs = search rules
 loop-less : tie.Need-loop-smaller invariant-loop decreases-loop
 loop-less c =
     let l = c.before.before.before.before.before.before.before in
-    rw c.follow.ensures (omega (arith, walked-falls _ (omega (arith, l.before.before.free.type-inv)) l.loop.invariant.2.walked c.before.before.before.before.before.before.loop-test.true, l.loop.invariant.2.walked.most))
+    rw c.follow.ensures (omega (arith, walked_falls _ (omega (arith, l.before.before.free.type-inv)) l.loop.invariant.2.walked c.before.before.before.before.before.before.loop-test.true, l.loop.invariant.2.walked.most))
 
 loop-again : tie.Need-loop-preserved invariant-loop decreases-loop
 loop-again c =
@@ -127,7 +127,7 @@ loop-again c =
     let free : l.before.before.free.result < 256 = omega (arith, l.before.before.free.type-inv) in
     let more = c.before.before.before.put-after.ensures in
     rw c.follow.ensures (
-      omega (arith, more.0, l.loop.invariant.0, walked-falls _ free l.loop.invariant.2.walked small),
+      omega (arith, more.0, l.loop.invariant.0, walked_falls _ free l.loop.invariant.2.walked small),
       more.1.grown.same ∙ l.loop.invariant.1,
       row_next free l.loop.invariant.2 small c.before.before.before.before.before.is-due.ensures l.before.before.before.before.before.before.before.before.before.before.before.shared-slice-known.given more.1,
     )
@@ -139,7 +139,7 @@ same_length c =
 returns-2 : tie.Need-returns-2 invariant-loop decreases-loop
 returns-2 c =
     let l = c.before in
-    (omega (arith, l.loop.invariant.0, l.loop.invariant.2.walked.most), row-end (row l) (start l).requires.0.is (start l).requires.4 l.loop.invariant.2 c.loop-test.false)
+    (omega (arith, l.loop.invariant.0, l.loop.invariant.2.walked.most), row_end (row l) (start l).requires.0.is (start l).requires.4 l.loop.invariant.2 c.loop-test.false)
 
 pub row-pending-spec : {M : Type 1} → statement M
 row-pending-spec =

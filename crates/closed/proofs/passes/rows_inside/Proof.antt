@@ -5,9 +5,9 @@ use mathlib.Core.Bool.{true, false}
 use borrow.Author.Tests.{not-true, not-false, leb-false, eqb-false}
 use lib.Dec.{leb, eqb}
 use lib.ListN.{length}
-use Rattle.lists.proofs.Bools.{nor-left, nor-right}
+use Rattle.lists.proofs.Bools.{nor_left, nor_right}
 use Rattle.closed.proofs.InsideLaws.{RowsTo}
-use Rattle.closed.proofs.PendingLaws.{Waiting, waiting-start, waiting-next, waiting-held, waiting-end, waiting-open}
+use Rattle.closed.proofs.PendingLaws.{Waiting, waiting_start, waiting-next, waiting_held, waiting_end, waiting-open}
 use native.Mathlib.Omega.{arith}
 use borrow.Author.Rules.{rules}
 use Rattle.closed.proofs.passes.rows_inside.Statement.{statement}
@@ -21,7 +21,7 @@ decreases-loop t ticker file cells n split pass pending₀ count₀ i₀ pending
 
 loop-holds : tie.Need-loop-init invariant-loop decreases-loop
 loop-holds c =
-    (omega arith, search rules, omega arith, λ l. refl, waiting-start _ _ _ _ _ _)
+    (omega arith, search rules, omega arith, λ l. refl, waiting_start _ _ _ _ _ _)
 
 slice-aggregate-row-pending : tie.Need-slice-aggregate-row-pending invariant-loop decreases-loop
 slice-aggregate-row-pending c = search rules
@@ -66,7 +66,7 @@ loop-again c =
       r.1.grown.same ∙ l.invariant.1,
       omega arith,
       λ e. refl,
-      waiting-held s.args.t s.args.file.now s.args.n
+      waiting_held s.args.t s.args.file.now s.args.n
           (waiting-next s.args.t s.args.file.now s.args.n s.args.split s.args.pass l.invariant.4 r.1) (rw yes at c.before.all_held.ensures),
     )
 
@@ -78,8 +78,8 @@ loop-again-2 c =
     let s = c.before.before.before.before.before.before.before.before in
     let l = c.before.before.before.before.before.loop in
     let r = c.before.before.row-pending in
-    let few = leb-false 64 r.result (nor-left (leb 64 r.result) (eqb (l.row + 1) s.args.n) c.if1.false) in
-    let more = eqb-false (l.row + 1) s.args.n (nor-right (leb 64 r.result) (eqb (l.row + 1) s.args.n) c.if1.false) in (
+    let few = leb-false 64 r.result (nor_left (leb 64 r.result) (eqb (l.row + 1) s.args.n) c.if1.false) in
+    let more = eqb-false (l.row + 1) s.args.n (nor_right (leb 64 r.result) (eqb (l.row + 1) s.args.n) c.if1.false) in (
       omega (arith, c.before.before.before.before.loop-test.true),
       r.ensures.1.grown.same ∙ l.invariant.1,
       omega (arith, few),
@@ -91,7 +91,7 @@ returns-2 : tie.Need-returns-2 invariant-loop decreases-loop
 returns-2 c =
     let s = c.before.before.before.before in
     let l = c.before.loop in
-    waiting-end s.args.t s.args.file.now s.args.n s.args.split s.args.pass l.invariant.4 (l.invariant.3 c.loop-test.false) s.requires.0.given.is c.loop-test.false
+    waiting_end s.args.t s.args.file.now s.args.n s.args.split s.args.pass l.invariant.4 (l.invariant.3 c.loop-test.false) s.requires.0.given.is c.loop-test.false
 
 pub rows-inside-spec : {M : Type 1} → statement M
 rows-inside-spec =

@@ -6,21 +6,21 @@ use lib.Dec.{ltb}
 use lib.ListN.{get_or}
 use Rattle.lists.specs.Lists.{count}
 use Rattle.tasks.specs.Words.{state_of}
-use Rattle.lists.proofs.Turns.{count_none, count_turn, count-end, count_room}
-use Rattle.closed.specs.Keeping.{gapAbove}
-use Rattle.closed.proofs.SoundLaws.{gap-above-word}
+use Rattle.lists.proofs.Turns.{count_none, count_turn, count_end, count_room}
+use Rattle.closed.specs.Keeping.{gap_above}
+use Rattle.closed.proofs.SoundLaws.{gap_above_word}
 use borrow.Author.Rules.{rules}
 use Rattle.closed.proofs.sound.count_gap_above.Statement.{statement}
 use Rattle.closed.proofs.sound.count_gap_above.Tie as tie
 
 abbrev invariant-loop : tie.invariant-loop
-invariant-loop t v n₀ i₀ n i = (i ≤ 8) × (n ≡ count i (gapAbove t (state_of v)))
+invariant-loop t v n₀ i₀ n i = (i ≤ 8) × (n ≡ count i (gap_above t (state_of v)))
 
 abbrev decreases-loop : tie.decreases-loop
 decreases-loop t v n₀ i₀ n i = 8 - i
 
 loop-holds : tie.Need-loop-init invariant-loop decreases-loop
-loop-holds c = (omega arith, count_none (gapAbove c.args.t1 (state_of c.args.t2)))
+loop-holds c = (omega arith, count_none (gap_above c.args.t1 (state_of c.args.t2)))
 
 mul-gap-in : tie.Need-overflow-mul-gap-in invariant-loop decreases-loop
 mul-gap-in c = search rules
@@ -40,7 +40,7 @@ cast-n c = search rules
 add-n : tie.Need-overflow-add-n invariant-loop decreases-loop
 add-n c =
     let h = c.before.before.before in
-    count_room (gapAbove h.before.args.t1 (state_of h.before.args.t2)) (ltb (get_or h.before.args.t1.gap h.loop.i 0) c.before.gap-in.result) h.loop.invariant.1 h.loop.invariant.0
+    count_room (gap_above h.before.args.t1 (state_of h.before.args.t2)) (ltb (get_or h.before.args.t1.gap h.loop.i 0) c.before.gap-in.result) h.loop.invariant.1 h.loop.invariant.0
 
 add-i : tie.Need-overflow-add-i invariant-loop decreases-loop
 add-i c = search rules
@@ -51,12 +51,12 @@ loop-less c = search rules
 loop-again : tie.Need-loop-preserved invariant-loop decreases-loop
 loop-again c =
     let h = c.before.before.before in
-    (omega arith, count_turn (gapAbove h.before.args.t1 (state_of h.before.args.t2)) {b = ltb (get_or h.before.args.t1.gap h.loop.i 0) c.before.gap-in.result} h.loop.i h.loop.invariant.1 (rw c.before.gap-in.ensures (gap-above-word h.before.args.t1 h.before.args.t2 h.loop.i (omega arith))))
+    (omega arith, count_turn (gap_above h.before.args.t1 (state_of h.before.args.t2)) {b = ltb (get_or h.before.args.t1.gap h.loop.i 0) c.before.gap-in.result} h.loop.i h.loop.invariant.1 (rw c.before.gap-in.ensures (gap_above_word h.before.args.t1 h.before.args.t2 h.loop.i (omega arith))))
 
 returns : tie.Need-returns invariant-loop decreases-loop
 returns c =
     let h = c.before in
-    count-end (gapAbove h.before.args.t1 (state_of h.before.args.t2)) h.loop.invariant.1 h.loop.invariant.0 c.loop-test.false
+    count_end (gap_above h.before.args.t1 (state_of h.before.args.t2)) h.loop.invariant.1 h.loop.invariant.0 c.loop-test.false
 
 pub count-gap-above-spec : {M : Type 1} → statement M
 count-gap-above-spec =

@@ -8,8 +8,8 @@ use lib.ListN.{get_or}
 use Rattle.lists.specs.Lists.{count}
 use Rattle.tasks.specs.State.{started}
 use Rattle.tasks.specs.Words.{state_of}
-use Rattle.lists.proofs.Turns.{count_none, count_turn, count-end, count_room}
-use Rattle.closed.proofs.SoundLaws.{started-word}
+use Rattle.lists.proofs.Turns.{count_none, count_turn, count_end, count_room}
+use Rattle.closed.proofs.SoundLaws.{started_word}
 use borrow.Author.Rules.{rules}
 use Rattle.closed.proofs.sound.count_started.Statement.{statement}
 use Rattle.closed.proofs.sound.count_started.Tie as tie
@@ -52,12 +52,12 @@ loop-less c = search rules
 loop-again : tie.Need-loop-preserved invariant-loop decreases-loop
 loop-again c =
     let h = c.before.before.before in
-    (omega arith, count_turn (started h.before.args.t1 (state_of h.before.args.t2)) {b = ltb 0 c.before.work_in.result && ltb c.before.work_in.result (get_or h.before.args.t1.work h.loop.i 0)} h.loop.i h.loop.invariant.1 (rw c.before.work_in.ensures (started-word h.before.args.t1 h.before.args.t2 h.loop.i (omega arith))))
+    (omega arith, count_turn (started h.before.args.t1 (state_of h.before.args.t2)) {b = ltb 0 c.before.work_in.result && ltb c.before.work_in.result (get_or h.before.args.t1.work h.loop.i 0)} h.loop.i h.loop.invariant.1 (rw c.before.work_in.ensures (started_word h.before.args.t1 h.before.args.t2 h.loop.i (omega arith))))
 
 returns : tie.Need-returns invariant-loop decreases-loop
 returns c =
     let h = c.before in
-    count-end (started h.before.args.t1 (state_of h.before.args.t2)) h.loop.invariant.1 h.loop.invariant.0 c.loop-test.false
+    count_end (started h.before.args.t1 (state_of h.before.args.t2)) h.loop.invariant.1 h.loop.invariant.0 c.loop-test.false
 
 pub count-started-spec : {M : Type 1} → statement M
 count-started-spec =

@@ -1,6 +1,6 @@
 -- The three counts. Assumes nothing.
 use Rattle.tasks.specs.Words.{state_of}
-use Rattle.closed.proofs.SoundLaws.{exceeds-work, exceeds-gap, exceeds-kept}
+use Rattle.closed.proofs.SoundLaws.{exceeds_work, exceeds_gap, exceeds-kept}
 use borrow.Author.Rules.{rules}
 use Rattle.closed.proofs.sound.exceeds.Statement.{statement}
 use Rattle.closed.proofs.sound.exceeds.Tie as tie
@@ -11,7 +11,7 @@ count-work-above-requires c κs = search rules
 returns : tie.Need-returns
 returns c =
     let a = c.before.before.args in
-    exceeds-work a.t (state_of a.v) c.before.count-work-above.ensures c.if1.true
+    exceeds_work a.t (state_of a.v) c.before.count-work-above.ensures c.if1.true
 
 count-gap-above-requires : tie.Need-count-gap-above-requires
 count-gap-above-requires c κs = search rules
@@ -19,7 +19,7 @@ count-gap-above-requires c κs = search rules
 returns-2 : tie.Need-returns-2
 returns-2 c =
     let a = c.before.before.before.before.args in
-    exceeds-gap a.t (state_of a.v) c.before.count-gap-above.ensures c.if2.true
+    exceeds_gap a.t (state_of a.v) c.before.count-gap-above.ensures c.if2.true
 
 count-started-requires : tie.Need-count-started-requires
 count-started-requires c κs = search rules

@@ -5,15 +5,15 @@ use lib.Dec.{ltb}
 use borrow.Author.Tests.{ltb-true, ltb-false}
 use Rattle.lists.specs.Lists.{eight}
 use Rattle.lists.proofs.Bools.{by_bool, and_left, and_right, and_no}
-use Rattle.cores.specs.Walk.{rank, readyCount, Walked}
-use Rattle.cores.proofs.WalkLaws.{walk-full, walk-all}
+use Rattle.cores.specs.Walk.{rank, ready_count, Walked}
+use Rattle.cores.proofs.WalkLaws.{walk_full, walk_all}
 use native.Mathlib.Omega.{arith}
 use borrow.Author.Rules.{rules}
 use Rattle.cores.proofs.walk.assign.Statement.{statement}
 use Rattle.cores.proofs.walk.assign.Tie as tie
 
 abbrev invariant-loop : tie.invariant-loop
-invariant-loop places m ranks ready walk₀ walk = Walked places m walk.run walk.count × (ready ≡ readyCount places) × (ranks ≡ eight (rank places 8))
+invariant-loop places m ranks ready walk₀ walk = Walked places m walk.run walk.count × (ready ≡ ready_count places) × (ranks ≡ eight (rank places 8))
 
 abbrev decreases-loop : tie.decreases-loop
 decreases-loop places m ranks ready walk₀ walk = m - walk.count
@@ -28,7 +28,7 @@ assign-kept-requires : tie.Need-assign-kept-requires invariant-loop decreases-lo
 assign-kept-requires c κs = search rules
 
 loop-holds : tie.Need-loop-init invariant-loop decreases-loop
-unfolding readyCount
+unfolding ready_count
 loop-holds c = (c.assign-kept.ensures.0, c.before.count-below.ensures.0, c.before.before.ranks-singly.ensures)
 
 assign-next-requires : tie.Need-assign-next-requires invariant-loop decreases-loop
@@ -37,15 +37,15 @@ assign-next-requires c κs =
     let a = c.before.before.before.before.before.before.before.args in
     let go = rw l.invariant.1 at c.if1.true in
     let some = ltb l.walk.count a.m in
-    let waits = ltb l.walk.count (readyCount a.places) in
-    (l.invariant.2, l.invariant.0, ltb-true l.walk.count a.m (and_left some waits go), ltb-true l.walk.count (readyCount a.places) (and_right some waits go))
+    let waits = ltb l.walk.count (ready_count a.places) in
+    (l.invariant.2, l.invariant.0, ltb-true l.walk.count a.m (and_left some waits go), ltb-true l.walk.count (ready_count a.places) (and_right some waits go))
 
 loop-less : tie.Need-loop-smaller invariant-loop decreases-loop
 loop-less c =
     let l = c.before.before.before.before.loop in
     let a = c.before.before.before.before.before.before.before.before.args in
     let go = rw l.invariant.1 at c.before.if1.true in
-    let some : l.walk.count < a.m = ltb-true l.walk.count a.m (and_left (ltb l.walk.count a.m) (ltb l.walk.count (readyCount a.places)) go) in
+    let some : l.walk.count < a.m = ltb-true l.walk.count a.m (and_left (ltb l.walk.count a.m) (ltb l.walk.count (ready_count a.places)) go) in
     omega (arith, some, c.assign-next.ensures.1)
 
 loop-again : tie.Need-loop-preserved invariant-loop decreases-loop
@@ -59,8 +59,8 @@ returns c =
     let a = c.before.before.before.before.before.before.before.before.args in
     let over = rw l.invariant.1 at c.before.if1.false in
     by_bool (ltb l.walk.count a.m)
-    (λ e. walk-all a.places a.m l.invariant.0 (ltb-false l.walk.count (readyCount a.places) (and_no e over)) (omega (arith, ltb-true l.walk.count a.m e)))
-    (λ e. walk-full a.places a.m l.invariant.0 (ltb-false l.walk.count a.m e))
+    (λ e. walk_all a.places a.m l.invariant.0 (ltb-false l.walk.count (ready_count a.places) (and_no e over)) (omega (arith, ltb-true l.walk.count a.m e)))
+    (λ e. walk_full a.places a.m l.invariant.0 (ltb-false l.walk.count a.m e))
 
 pub assign-spec : {M : Type 1} → statement M
 assign-spec =

@@ -2,16 +2,16 @@
 use Prim.Native.Nat.{◌-◌, ◌<◌}
 use mathlib.Core.Path.{◌≡◌}
 use Rattle.lists.specs.Lists.{eight}
-use Rattle.cores.specs.Walk.{rank, readyCount, Walked}
-use Rattle.cores.proofs.RankLaws.{kept-ready}
-use Rattle.cores.proofs.WalkLaws.{walk-full, walk-all}
+use Rattle.cores.specs.Walk.{rank, ready_count, Walked}
+use Rattle.cores.proofs.RankLaws.{kept_ready}
+use Rattle.cores.proofs.WalkLaws.{walk_full, walk_all}
 use native.Mathlib.Omega.{arith}
 use borrow.Author.Rules.{rules}
 use Rattle.cores.proofs.walk.assign_quickly.Statement.{statement}
 use Rattle.cores.proofs.walk.assign_quickly.Tie as tie
 
 abbrev invariant-loop : tie.invariant-loop
-invariant-loop places m count waiting ranks walk₀ walk = Walked places m walk.run walk.count × (m < readyCount places) × (ranks ≡ eight (rank places 8))
+invariant-loop places m count waiting ranks walk₀ walk = Walked places m walk.run walk.count × (m < ready_count places) × (ranks ≡ eight (rank places 8))
 
 abbrev decreases-loop : tie.decreases-loop
 decreases-loop places m count waiting ranks walk₀ walk = m - walk.count
@@ -23,34 +23,34 @@ count-below-requires : tie.Need-count-below-requires invariant-loop decreases-lo
 count-below-requires c κs = search rules
 
 sub-waiting : tie.Need-overflow-sub-waiting invariant-loop decreases-loop
-unfolding readyCount
-sub-waiting c = omega (arith, kept-ready c.before.before.args.places, c.before.assign-kept.ensures.1, c.count-below.ensures.0)
+unfolding ready_count
+sub-waiting c = omega (arith, kept_ready c.before.before.args.places, c.before.assign-kept.ensures.1, c.count-below.ensures.0)
 
 add-if1 : tie.Need-overflow-add-if1 invariant-loop decreases-loop
 add-if1 c = search rules
 
 assign-rest-requires : tie.Need-assign-rest-requires invariant-loop decreases-loop
-unfolding readyCount
+unfolding ready_count
 assign-rest-requires c κs =
     let h = c.before in
-    (omega (arith, kept-ready h.before.before.args.places, h.before.assign-kept.ensures.1, h.count-below.ensures.0), search rules)
+    (omega (arith, kept_ready h.before.before.args.places, h.before.assign-kept.ensures.1, h.count-below.ensures.0), search rules)
 
 returns : tie.Need-returns invariant-loop decreases-loop
-unfolding readyCount
+unfolding ready_count
 returns c =
     let rest = c.before.assign-rest in
     let h = c.before.before.before in
-    walk-all _ _ rest.ensures.0 (omega (arith, kept-ready h.before.before.args.places, h.before.assign-kept.ensures.1, h.count-below.ensures.0, rest.ensures.1)) (omega (arith, rest.ensures.1))
+    walk_all _ _ rest.ensures.0 (omega (arith, kept_ready h.before.before.args.places, h.before.assign-kept.ensures.1, h.count-below.ensures.0, rest.ensures.1)) (omega (arith, rest.ensures.1))
 
 ranks-requires : tie.Need-ranks-requires invariant-loop decreases-loop
 ranks-requires c κs = search rules
 
 loop-holds : tie.Need-loop-init invariant-loop decreases-loop
-unfolding readyCount
+unfolding ready_count
 loop-holds c =
     let h = c.before.before in (
       h.before.assign-kept.ensures.0,
-      omega (arith, kept-ready h.before.before.args.places, h.before.assign-kept.ensures.1, h.count-below.ensures.0, c.before.if1.false),
+      omega (arith, kept_ready h.before.before.args.places, h.before.assign-kept.ensures.1, h.count-below.ensures.0, c.before.if1.false),
       c.ranks.ensures,
     )
 
@@ -68,7 +68,7 @@ loop-again c =
     (c.assign-next.ensures.0, l.invariant.1, l.invariant.2)
 
 returns-2 : tie.Need-returns-2 invariant-loop decreases-loop
-returns-2 c = walk-full _ _ c.before.before.before.loop.invariant.0 (omega (arith, c.before.if2.false))
+returns-2 c = walk_full _ _ c.before.before.before.loop.invariant.0 (omega (arith, c.before.if2.false))
 
 pub assign-quickly-spec : {M : Type 1} → statement M
 assign-quickly-spec =

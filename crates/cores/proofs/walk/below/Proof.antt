@@ -3,8 +3,8 @@ use mathlib.Core.Path.{refl}
 use lib.Dec.{ltb}
 use lib.ListN.{get_or}
 use Rattle.lists.specs.Lists.{pick}
-use Rattle.lists.proofs.Fill.{Filled, filled-start, filled-store, filled-end}
-use Rattle.lists.proofs.Turns.{bool-byte}
+use Rattle.lists.proofs.Fill.{Filled, filled_start, filled_store, filled_end}
+use Rattle.lists.proofs.Turns.{bool_byte_lem}
 use Rattle.cores.specs.Walk.{under}
 use native.Mathlib.Omega.{arith}
 use borrow.Author.Rules.{rules}
@@ -18,7 +18,7 @@ abbrev decreases-loop : tie.decreases-loop
 decreases-loop x places out₀ i₀ out i = 8 - i
 
 loop-holds : tie.Need-loop-init invariant-loop decreases-loop
-loop-holds c = (omega arith, filled-start refl)
+loop-holds c = (omega arith, filled_start refl)
 
 mul-out : tie.Need-overflow-mul-out invariant-loop decreases-loop
 mul-out c = search rules
@@ -46,10 +46,10 @@ unfolding under
 loop-again c =
     let h = c.before in
     let a = h.before.args in
-    (omega arith, filled-store h.loop.invariant.1 (omega arith) (bool-byte (ltb (get_or a.t1 h.loop.i 0) a.x)))
+    (omega arith, filled_store h.loop.invariant.1 (omega arith) (bool_byte_lem (ltb (get_or a.t1 h.loop.i 0) a.x)))
 
 returns : tie.Need-returns invariant-loop decreases-loop
-returns c = filled-end c.before.loop.invariant.1 c.loop-test.false
+returns c = filled_end c.before.loop.invariant.1 c.loop-test.false
 
 pub below-spec : {M : Type 1} → statement M
 below-spec =

@@ -4,7 +4,7 @@ use mathlib.Core.Path.{◌≡◌, refl, ap, ◌∙◌}
 use lib.ListN.{get_or}
 use Rattle.lists.specs.Lists.{count}
 use Rattle.cores.specs.Walk.{sooner, leads, rank}
-use Rattle.lists.proofs.Turns.{count_none, count_turn, count-end, count_room, count-le}
+use Rattle.lists.proofs.Turns.{count_none, count_turn, count_end, count_room, count_le}
 use native.Mathlib.Omega.{arith}
 use borrow.Author.Rules.{rules}
 use Rattle.cores.proofs.walk.count_before.Statement.{statement}
@@ -62,8 +62,8 @@ unfolding rank
 returns c =
     let h = c.before in
     let p = leads h.before.args.t1 h.before.args.i in
-    let e = count-end p h.loop.invariant.1 h.loop.invariant.0 c.loop-test.false in
-    (e, omega (arith, count-le p 8))
+    let e = count_end p h.loop.invariant.1 h.loop.invariant.0 c.loop-test.false in
+    (e, omega (arith, count_le p 8))
 
 pub count-before-spec : {M : Type 1} → statement M
 count-before-spec =

@@ -1,8 +1,8 @@
 use Prim.Native.Nat.{◌≤◌, ◌-◌, ◌+◌}
 use mathlib.Core.Path.{refl}
 use Rattle.cores.specs.Walk.{rank}
-use Rattle.lists.proofs.Fill.{Filled, filled-start, filled-store, filled-end}
-use Rattle.cores.proofs.RankLaws.{rank-turn, rank_room}
+use Rattle.lists.proofs.Fill.{Filled, filled_start, filled_store, filled_end}
+use Rattle.cores.proofs.RankLaws.{rank_turn, rank_room}
 use native.Mathlib.Omega.{arith}
 use borrow.Author.Rules.{rules}
 use Rattle.cores.proofs.walk.count_place.Statement.{statement}
@@ -21,7 +21,7 @@ array-read-y : tie.Need-array-read-y invariant-loop decreases-loop
 array-read-y c = search rules
 
 loop-holds : tie.Need-loop-init invariant-loop decreases-loop
-loop-holds c = (omega arith, filled-start refl)
+loop-holds c = (omega arith, filled_start refl)
 
 mul-out : tie.Need-overflow-mul-out invariant-loop decreases-loop
 mul-out c = search rules
@@ -63,10 +63,10 @@ loop-again : tie.Need-loop-preserved invariant-loop decreases-loop
 loop-again c =
     let h = c.before.before in
     let a = h.before.args in
-    (omega arith, filled-store h.loop.invariant.1 (omega arith) (rank-turn a.t2 a.i h.loop.j h.before.requires.1 (omega arith) c.sooner.ensures))
+    (omega arith, filled_store h.loop.invariant.1 (omega arith) (rank_turn a.t2 a.i h.loop.j h.before.requires.1 (omega arith) c.sooner.ensures))
 
 returns : tie.Need-returns invariant-loop decreases-loop
-returns c = filled-end c.before.loop.invariant.1 c.loop-test.false
+returns c = filled_end c.before.loop.invariant.1 c.loop-test.false
 
 pub count-place-spec : {M : Type 1} → statement M
 count-place-spec =

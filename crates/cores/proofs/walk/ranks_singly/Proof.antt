@@ -1,6 +1,6 @@
 use Prim.Native.Nat.{◌≤◌, ◌-◌}
 use mathlib.Core.Path.{refl}
-use Rattle.lists.proofs.Fill.{Filled, filled-start, filled-store, filled-end}
+use Rattle.lists.proofs.Fill.{Filled, filled_start, filled_store, filled_end}
 use Rattle.cores.specs.Walk.{rank}
 use native.Mathlib.Omega.{arith}
 use borrow.Author.Rules.{rules}
@@ -14,7 +14,7 @@ abbrev decreases-loop : tie.decreases-loop
 decreases-loop places out₀ i₀ out i = 8 - i
 
 loop-holds : tie.Need-loop-init invariant-loop decreases-loop
-loop-holds c = (omega arith, filled-start refl)
+loop-holds c = (omega arith, filled_start refl)
 
 count-before-requires : tie.Need-count-before-requires invariant-loop decreases-loop
 count-before-requires c κs = search rules
@@ -32,10 +32,10 @@ loop-less : tie.Need-loop-smaller invariant-loop decreases-loop
 loop-less c = search rules
 
 loop-again : tie.Need-loop-preserved invariant-loop decreases-loop
-loop-again c = (omega arith, filled-store c.before.before.loop.invariant.1 (omega arith) c.count-before.ensures.0)
+loop-again c = (omega arith, filled_store c.before.before.loop.invariant.1 (omega arith) c.count-before.ensures.0)
 
 returns : tie.Need-returns invariant-loop decreases-loop
-returns c = filled-end c.before.loop.invariant.1 c.loop-test.false
+returns c = filled_end c.before.loop.invariant.1 c.loop-test.false
 
 pub ranks-singly-spec : {M : Type 1} → statement M
 ranks-singly-spec =

@@ -4,7 +4,7 @@ use mathlib.Core.Bool.{◌&&◌}
 use lib.Dec.{eqb}
 use lib.ListN.{get_or}
 use Rattle.lists.specs.Lists.{pick}
-use Rattle.lists.proofs.Fill.{Filled, filled-start, filled-store, filled-end}
+use Rattle.lists.proofs.Fill.{Filled, filled_start, filled_store, filled_end}
 use native.Mathlib.Omega.{arith}
 use borrow.Author.Rules.{rules}
 use Rattle.cores.proofs.walk.with_rank.Statement.{statement}
@@ -17,7 +17,7 @@ abbrev decreases-loop : tie.decreases-loop
 decreases-loop rank ranks run out₀ i₀ out i = 8 - i
 
 loop-holds : tie.Need-loop-init invariant-loop decreases-loop
-loop-holds c = (omega arith, filled-start refl)
+loop-holds c = (omega arith, filled_start refl)
 
 mul-given : tie.Need-overflow-mul-given invariant-loop decreases-loop
 mul-given c = search rules
@@ -55,10 +55,10 @@ loop-less c = search rules
 loop-again : tie.Need-loop-preserved invariant-loop decreases-loop
 loop-again c =
     let h = c.before.before in
-    (omega arith, filled-store h.loop.invariant.1 (omega arith) c.given.ensures)
+    (omega arith, filled_store h.loop.invariant.1 (omega arith) c.given.ensures)
 
 returns : tie.Need-returns invariant-loop decreases-loop
-returns c = filled-end c.before.loop.invariant.1 c.loop-test.false
+returns c = filled_end c.before.loop.invariant.1 c.loop-test.false
 
 pub with-rank-spec : {M : Type 1} → statement M
 with-rank-spec =

@@ -2,7 +2,7 @@
 use Prim.Native.Nat.{◌-◌, ◌≤◌}
 use lib.ListN.{length, length-set}
 use native.Mathlib.Omega.{arith}
-use Rattle.cut.proofs.MaskLaws.{Cutting, cutting-start, cutting-step, cutting-end}
+use Rattle.cut.proofs.MaskLaws.{Cutting, cutting_start, cutting_step, cutting_end}
 use borrow.Author.Rules.{rules}
 use Rattle.cut.proofs.masks.cut_list.Statement.{statement}
 use Rattle.cut.proofs.masks.cut_list.Tie as tie
@@ -14,7 +14,7 @@ abbrev decreases-loop : tie.decreases-loop
 decreases-loop masks₀ k i₀ masks i = length masks - i
 
 loop-holds : tie.Need-loop-init invariant-loop decreases-loop
-loop-holds c = (omega arith, cutting-start _ _)
+loop-holds c = (omega arith, cutting_start _ _)
 
 slice-read-cut-mask : tie.Need-slice-read-cut-mask invariant-loop decreases-loop
 slice-read-cut-mask c = search rules
@@ -34,13 +34,13 @@ loop-less c = simp length-set (omega arith)
 loop-again : tie.Need-loop-preserved invariant-loop decreases-loop
 loop-again c =
     let l = c.before.before.before.loop in
-    (simp length-set (omega arith), cutting-step _ l.invariant.1 c.before.before.loop-test.true c.cut-mask.ensures)
+    (simp length-set (omega arith), cutting_step _ l.invariant.1 c.before.before.loop-test.true c.cut-mask.ensures)
 
 same_length : tie.Need-same-length invariant-loop decreases-loop
 same_length c = search rules
 
 returns : tie.Need-returns invariant-loop decreases-loop
-returns c = cutting-end _ c.before.loop.invariant.1 c.loop-test.false
+returns c = cutting_end _ c.before.loop.invariant.1 c.loop-test.false
 
 pub cut-list-spec : {M : Type 1} → statement M
 cut-list-spec =

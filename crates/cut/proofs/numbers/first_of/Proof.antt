@@ -4,7 +4,7 @@ use lib.Dec.{ltb}
 use lib.ListN.{get_or}
 use native.Mathlib.Omega.{arith}
 use Rattle.lists.specs.Lists.{pick}
-use Rattle.lists.proofs.Fill.{Filled, filled-start, filled-store, filled-end}
+use Rattle.lists.proofs.Fill.{Filled, filled_start, filled_store, filled_end}
 use borrow.Author.Rules.{rules}
 use Rattle.cut.proofs.numbers.first_of.Statement.{statement}
 use Rattle.cut.proofs.numbers.first_of.Tie as tie
@@ -16,7 +16,7 @@ abbrev decreases-loop : tie.decreases-loop
 decreases-loop k a f₀ i₀ f i = 8 - i
 
 loop-holds : tie.Need-loop-init invariant-loop decreases-loop
-loop-holds c = (omega arith, filled-start (search rules))
+loop-holds c = (omega arith, filled_start (search rules))
 
 array-read-among : tie.Need-array-read-among invariant-loop decreases-loop
 array-read-among c = search rules
@@ -34,10 +34,10 @@ loop-less : tie.Need-loop-smaller invariant-loop decreases-loop
 loop-less c = search rules
 
 loop-again : tie.Need-loop-preserved invariant-loop decreases-loop
-loop-again c = (omega arith, filled-store c.before.before.loop.invariant.1 c.before.loop-test.true c.among.ensures)
+loop-again c = (omega arith, filled_store c.before.before.loop.invariant.1 c.before.loop-test.true c.among.ensures)
 
 returns : tie.Need-returns invariant-loop decreases-loop
-returns c = filled-end c.before.loop.invariant.1 c.loop-test.false
+returns c = filled_end c.before.loop.invariant.1 c.loop-test.false
 
 pub first-of-spec : {M : Type 1} → statement M
 first-of-spec =

@@ -1,5 +1,5 @@
 -- Number by number. Assumes nothing.
-use Rattle.cut.specs.Cut.{cutTable}
+use Rattle.cut.specs.Cut.{cut_table}
 use borrow.Author.Rules.{rules}
 use Rattle.cut.proofs.tables.first_tasks.Statement.{statement}
 use Rattle.cut.proofs.tables.first_tasks.Tie as tie
@@ -14,7 +14,7 @@ first-of-requires-3 : tie.Need-first-of-requires-3
 first-of-requires-3 c κs = search rules
 
 returns : tie.Need-returns
-unfolding cutTable
+unfolding cut_table
 returns c =
     let a = c.before.before.before.before.before.before.args in
     λ x.

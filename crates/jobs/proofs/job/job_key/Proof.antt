@@ -1,18 +1,18 @@
 use Rattle.std.proofs.Common.{rules, le-ltb, lt-ltb}
-use Rattle.jobs.specs.Job.{jobKey}
+use Rattle.jobs.specs.Job.{job_key}
 use Rattle.jobs.proofs.Signed.{back}
 use Rattle.jobs.proofs.job.job_key.Statement.{statement}
 use Rattle.jobs.proofs.job.job_key.Tie as tie
 
 returns : tie.Need-returns
-unfolding jobKey
+unfolding job_key
 returns c = rw (lt-ltb c.before.args.policy 2 c.if1.true)
 
 time-left-requires : tie.Need-time-left-requires
 time-left-requires c κs = search rules
 
 returns-2 : tie.Need-returns-2
-unfolding jobKey
+unfolding job_key
 returns-2 c =
     let h = c.before.before in
     let a = h.before.args in
@@ -22,7 +22,7 @@ slack-of-requires : tie.Need-slack-of-requires
 slack-of-requires c κs = search rules
 
 returns-3 : tie.Need-returns-3
-unfolding jobKey
+unfolding job_key
 returns-3 c =
     let h = c.before.before in
     let a = h.before.args in

@@ -1,6 +1,6 @@
 use Rattle.std.proofs.Common.{w16, rules}
 use mir.ValLaws.{to_z-of_z}
-use Rattle.jobs.proofs.Signed.{back, byte, slack-fits}
+use Rattle.jobs.proofs.Signed.{back, byte, slack_fits}
 use Rattle.jobs.proofs.job.slack_of.Statement.{statement}
 use Rattle.jobs.proofs.job.slack_of.Tie as tie
 
@@ -14,13 +14,13 @@ sub-result : tie.Need-overflow-sub-result
 sub-result c =
     let f = c.before.ranges in
     rw (back c.time-left.result c.time-left.type-inv, byte f.c, c.time-left.ensures)
-    (slack-fits f.deadline f.gap f.p f.c)
+    (slack_fits f.deadline f.gap f.p f.c)
 
 returns : tie.Need-returns
 returns c =
     let f = c.before.ranges in
     rw
-    (back c.time-left.result c.time-left.type-inv, byte f.c, c.time-left.ensures, to_z-of_z w16 _ (slack-fits f.deadline f.gap f.p f.c))
+    (back c.time-left.result c.time-left.type-inv, byte f.c, c.time-left.ensures, to_z-of_z w16 _ (slack_fits f.deadline f.gap f.p f.c))
 
 pub slack-of-spec : {M : Type 1} → statement M
 slack-of-spec = tie.close (tie.spec time-left-requires cast-result sub-result returns)

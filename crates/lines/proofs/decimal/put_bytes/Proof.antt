@@ -5,7 +5,7 @@ use mathlib.Core.List.{[], ◌∷◌}
 use native.Mathlib.Numerals.{add-one}
 use lib.ListN.{length, get_or, drop}
 use lib.Seq.{drop-cons, drop-length}
-use Rattle.tasks.proofs.Stores.{Storing, storing-start, storing-step, storing-end}
+use Rattle.tasks.proofs.Stores.{Storing, storing_start, storing-step, storing_end}
 use native.Mathlib.Omega.{arith}
 use borrow.Author.Rules.{rules}
 use Rattle.lines.proofs.decimal.put_bytes.Statement.{statement}
@@ -18,7 +18,7 @@ abbrev decreases-loop : tie.decreases-loop
 decreases-loop out₀ at s i₀ out i = length s - i
 
 loop-holds : tie.Need-loop-init invariant-loop decreases-loop
-loop-holds c = (omega arith, let z : c.args.at + 0 ≡ c.args.at = omega arith in rw z (storing-start c.args.out.now c.args.at c.args.s.now c.requires))
+loop-holds c = (omega arith, let z : c.args.at + 0 ≡ c.args.at = omega arith in rw z (storing_start c.args.out.now c.args.at c.args.s.now c.requires))
 
 shared-slice-read-out : tie.Need-shared-slice-read-out invariant-loop decreases-loop
 shared-slice-read-out c = search rules
@@ -56,7 +56,7 @@ returns c =
     let s = c.before.before.args.s.now in
     let left = c.loop-test.false in
     let e : l.i ≡ length s = omega (arith, l.invariant.0) in
-    (omega arith, storing-end (rw (e, drop-length s) at l.invariant.1))
+    (omega arith, storing_end (rw (e, drop-length s) at l.invariant.1))
 
 pub put-bytes-spec : {M : Type 1} → statement M
 put-bytes-spec =

@@ -4,7 +4,7 @@ use mathlib.Core.Path.{◌≡◌, refl, sym, ap, ◌∙◌}
 use lib.ListN.{length, length-set}
 use lib.Seq.{sets}
 use Rattle.lines.specs.Lines.{decimal}
-use Rattle.lines.proofs.Digits.{decimal-some, decimal-longer, decimal-single, decimal-more, decimal-one}
+use Rattle.lines.proofs.Digits.{decimal_some, decimal_longer, decimal_single, decimal_more, decimal_one}
 use Rattle.lines.proofs.Places.{sets_last}
 use native.Mathlib.Omega.{arith}
 use borrow.Author.Rules.{rules}
@@ -25,13 +25,13 @@ add-end : tie.Need-overflow-add-end invariant-loop decreases-loop
 add-end c = let e = c.decimal-len.ensures.0 in let p = c.before.before.requires in omega arith
 
 sub-i : tie.Need-overflow-sub-i invariant-loop decreases-loop
-sub-i c = omega (arith, c.decimal-len.ensures.0, decimal-some c.before.before.args.x)
+sub-i c = omega (arith, c.decimal-len.ensures.0, decimal_some c.before.before.args.x)
 
 loop-holds : tie.Need-loop-init invariant-loop decreases-loop
 loop-holds c =
     let e = c.decimal-len.ensures.0 in
     let p = c.before.before.requires in
-    let some = decimal-some c.before.before.args.x in
+    let some = decimal_some c.before.before.args.x in
     (refl, omega arith, refl, omega arith)
 
 add-out : tie.Need-overflow-add-out invariant-loop decreases-loop
@@ -46,7 +46,7 @@ slice-write-out c = c.before.loop.invariant.3
 sub-i-2 : tie.Need-overflow-sub-i-2 invariant-loop decreases-loop
 sub-i-2 c =
     let rest = c.before.loop.rest in
-    omega (arith, c.before.loop.invariant.1, decimal-longer rest c.loop-test.true, decimal-some (rest / 10))
+    omega (arith, c.before.loop.invariant.1, decimal_longer rest c.loop-test.true, decimal_some (rest / 10))
 
 loop-less : tie.Need-loop-smaller invariant-loop decreases-loop
 loop-less c = omega arith
@@ -57,10 +57,10 @@ loop-again c =
     let rest = l.rest in
     let at = c.before.before.before.before.args.at in
     let big = c.loop-test.true in
-    let longer = decimal-longer rest big in
-    let some = decimal-some (rest / 10) in
+    let longer = decimal_longer rest big in
+    let some = decimal_some (rest / 10) in
     let place = l.invariant.1 in (
-      sym (sets_last (decimal (rest / 10)) l.out at l.i (48 + rest % 10) (omega arith)) ∙ ap (sets l.out at) (sym (decimal-more rest big)) ∙ l.invariant.0,
+      sym (sets_last (decimal (rest / 10)) l.out at l.i (48 + rest % 10) (omega arith)) ∙ ap (sets l.out at) (sym (decimal_more rest big)) ∙ l.invariant.0,
       omega arith,
       simp length-set l.invariant.2,
       simp length-set (let h = l.invariant.3 in omega arith),
@@ -84,8 +84,8 @@ returns c =
     let rest = l.rest in
     let at = c.before.before.before.before.args.at in
     let small = c.loop-test.false in
-    let e : l.i ≡ at = omega (arith, l.invariant.1, decimal-single rest small) in
-    (ap (λ n. at + n) c.before.before.decimal-len.ensures.0, rw e (ap (sets l.out at) (sym (decimal-one rest small)) ∙ l.invariant.0))
+    let e : l.i ≡ at = omega (arith, l.invariant.1, decimal_single rest small) in
+    (ap (λ n. at + n) c.before.before.decimal-len.ensures.0, rw e (ap (sets l.out at) (sym (decimal_one rest small)) ∙ l.invariant.0))
 
 pub put-decimal-spec : {M : Type 1} → statement M
 put-decimal-spec =

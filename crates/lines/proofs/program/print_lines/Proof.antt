@@ -1,7 +1,7 @@
 -- The lines of every answer fit the output. Assumes nothing.
 use mathlib.Core.Path.{◌≡◌, sym, ◌∙◌}
 use lib.ListN.{length}
-use Rattle.lines.proofs.LineLaws.{written-text, refused-short}
+use Rattle.lines.proofs.LineLaws.{written-text, refused_short}
 use native.Mathlib.Omega.{arith}
 use borrow.Author.Rules.{rules}
 use Rattle.lines.proofs.program.print_lines.Statement.{statement}
@@ -26,7 +26,7 @@ returns-2 : tie.Need-returns-2
 returns-2 c =
     let a = c.before.before.before.before.before.args in
     let put = c.before.before.put-lines.ensures in
-    let short = refused-short a.a a.trace.now a.out.now (sym c.enum_told.given.1 ∙ put.0) in
+    let short = refused_short a.a a.trace.now a.out.now (sym c.enum_told.given.1 ∙ put.0) in
     let most = put.2 in
     let room : length a.out.now ≡ 32896 = search rules in
     let long : length a.trace.now ≡ 8192 = search rules in

@@ -2,7 +2,7 @@
 use mathlib.Core.Path.{◌≡◌, ap, ◌∙◌}
 use lib.ListN.{length}
 use Rattle.lines.specs.Lines.{decimal}
-use Rattle.lines.proofs.LineLaws.{safe-length, unsafe-length, room-length, refused-length}
+use Rattle.lines.proofs.LineLaws.{safe_length, unsafe_length, room_length, refused_length}
 use native.Mathlib.Omega.{arith}
 use borrow.Author.Rules.{rules}
 use Rattle.lines.proofs.text.first_len.Statement.{statement}
@@ -71,26 +71,26 @@ add-result-10 c = search rules
 returns : tie.Need-returns
 returns c =
     let e = c.decimal-len.ensures in
-    (rw c.before.before.a.given.1 (omega (arith, e.0, safe-length c.before.before.a.given.0.0)), omega (arith, e.1))
+    (rw c.before.before.a.given.1 (omega (arith, e.0, safe_length c.before.before.a.given.0.0)), omega (arith, e.1))
 
 returns-2 : tie.Need-returns-2
 returns-2 c =
     let e = c.decimal-len3.ensures in
     let d = c.before.decimal-len2.ensures in
     let a = c.before.before.before.a2 in
-    (rw a.given.1 (omega (arith, e.0, d.0, unsafe-length a.given.0.0 a.given.0.1.0)), omega (arith, e.1, d.1))
+    (rw a.given.1 (omega (arith, e.0, d.0, unsafe_length a.given.0.0 a.given.0.1.0)), omega (arith, e.1, d.1))
 
 returns-3 : tie.Need-returns-3
 returns-3 c =
     let e = c.decimal-len4.ensures in
-    (rw c.before.before.a3.given.1 (omega (arith, e.0, room-length c.before.before.a3.given.0.0)), omega (arith, e.1))
+    (rw c.before.before.a3.given.1 (omega (arith, e.0, room_length c.before.before.a3.given.0.0)), omega (arith, e.1))
 
 returns-4 : tie.Need-returns-4
 returns-4 c =
     let e = c.decimal-len5.ensures in
     let a = c.before.before.before.a4 in
     let d : c.decimal-len5.result ≡ length (decimal a.given.0.0) = e.0 ∙ ap (λ x. length (decimal x)) c.before.wide.ensures.0 in
-    (rw a.given.1 (omega (arith, refused-length a.given.0.0)), omega (arith, e.1))
+    (rw a.given.1 (omega (arith, refused_length a.given.0.0)), omega (arith, e.1))
 
 pub first-len-spec : {M : Type 1} → statement M
 first-len-spec =

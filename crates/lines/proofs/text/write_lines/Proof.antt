@@ -1,5 +1,5 @@
 use mathlib.Core.Path.{ap}
-use Rattle.tasks.specs.Answers.{writingAnswer}
+use Rattle.tasks.specs.Answers.{writing_answer}
 use borrow.Author.Rules.{rules}
 use Rattle.lines.proofs.text.write_lines.Statement.{statement}
 use Rattle.lines.proofs.text.write_lines.Tie as tie
@@ -11,7 +11,7 @@ same_length : tie.Need-same-length
 same_length c = search rules
 
 returns : tie.Need-returns
-returns c = let w = c.before.before.put-lines.ensures in (ap writingAnswer w.0, w.1)
+returns c = let w = c.before.before.put-lines.ensures in (ap writing_answer w.0, w.1)
 
 pub write-lines-spec : {M : Type 1} → statement M
 write-lines-spec = tie.close (tie.spec put-lines-requires same_length returns)

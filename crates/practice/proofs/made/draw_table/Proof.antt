@@ -1,7 +1,7 @@
 -- The invariant: the first i tasks are drawn, and s is the last draw. Assumes nothing.
 use Prim.Native.Nat.{◌-◌, ◌≤◌}
 use native.Mathlib.Omega.{arith}
-use Rattle.practice.proofs.DrawLaws.{few-entries, Drawing, drawing-start, drawing-step, drawing-end}
+use Rattle.practice.proofs.DrawLaws.{few_entries, Drawing, drawing_start, drawing-step, drawing_end}
 use borrow.Author.Rules.{rules}
 use Rattle.practice.proofs.made.draw_table.Statement.{statement}
 use Rattle.practice.proofs.made.draw_table.Tie as tie
@@ -16,7 +16,7 @@ entries-requires : tie.Need-entries-requires invariant-loop decreases-loop
 entries-requires c κs = search rules
 
 loop-holds : tie.Need-loop-init invariant-loop decreases-loop
-loop-holds c = (omega arith, few-entries c.before.args.n c.entries.ensures, drawing-start)
+loop-holds c = (omega arith, few_entries c.before.args.n c.entries.ensures, drawing_start)
 
 drawn-requires : tie.Need-drawn-requires invariant-loop decreases-loop
 drawn-requires c κs = search rules
@@ -49,7 +49,7 @@ loop-again : tie.Need-loop-preserved invariant-loop decreases-loop
 loop-again c =
     let d = c.before in
     let l = c.before.before.before.before.before.loop in
-    let task = c.task-of.ensures in (
+    let task = c.task_of_lem.ensures in (
       omega arith,
       l.invariant.1,
       drawing-step l.invariant.2
@@ -67,7 +67,7 @@ loop-again c =
 returns : tie.Need-returns invariant-loop decreases-loop
 returns c =
     let h = c.before in
-    drawing-end h.loop.invariant.2 (omega (arith, h.before.entries.ensures))
+    drawing_end h.loop.invariant.2 (omega (arith, h.before.entries.ensures))
 
 pub draw-table-spec : {M : Type 1} → statement M
 draw-table-spec =

@@ -1,11 +1,11 @@
 -- The judge of tables says what the first three numbers are refused for. Assumes nothing.
 use mathlib.Core.Path.{◌≡◌, ap, ◌∙◌}
 use native.Mathlib.Omega.{arith}
-use Rattle.tasks.specs.Table.{tableFault}
-use Rattle.tasks.specs.Sheet.{acceptedAs}
-use Rattle.tasks.proofs.Answers.{sheet-told}
-use Rattle.practice.specs.Practice.{practiceTable}
-use Rattle.practice.proofs.Theorems.{practice-refused, practice-made}
+use Rattle.tasks.specs.Table.{table_fault}
+use Rattle.tasks.specs.Sheet.{accepted_as}
+use Rattle.tasks.proofs.Answers.{sheet_told}
+use Rattle.practice.specs.Practice.{practice_table}
+use Rattle.practice.proofs.Theorems.{practice_refused, practice_made}
 use borrow.Author.Rules.{rules}
 use Rattle.practice.proofs.made.practice_table.Statement.{statement}
 use Rattle.practice.proofs.made.practice_table.Tie as tie
@@ -23,16 +23,16 @@ returns : tie.Need-returns
 returns c =
     let h = c.before.before in
     let a = h.before.before.args in
-    sheet-told
-    (c.refused.ensures ∙ practice-refused a.policy a.m a.n a.seed c.before.if1.true (h.fault.ensures ∙ ap tableFault h.before.draw-table.ensures))
+    sheet_told
+    (c.refused.ensures ∙ practice_refused a.policy a.m a.n a.seed c.before.if1.true (h.fault.ensures ∙ ap table_fault h.before.draw-table.ensures))
 
 returns-2 : tie.Need-returns-2
 returns-2 c =
     let h = c.before in
     let a = h.before.before.args in
     let made = h.before.draw-table.ensures in
-    let fine : tableFault (practiceTable a.policy a.m a.n a.seed) ≡ 0 = omega (arith, c.if1.false, h.fault.ensures, ap tableFault made) in
-    sheet-told (ap acceptedAs made ∙ practice-made a.policy a.m a.n a.seed fine)
+    let fine : table_fault (practice_table a.policy a.m a.n a.seed) ≡ 0 = omega (arith, c.if1.false, h.fault.ensures, ap table_fault made) in
+    sheet_told (ap accepted_as made ∙ practice_made a.policy a.m a.n a.seed fine)
 
 pub practice-table-spec : {M : Type 1} → statement M
 practice-table-spec =

@@ -1,8 +1,8 @@
 -- The sheet is refused, or its table is cut. Assumes nothing.
 use mathlib.Core.Path.{ap, ◌∙◌}
-use Rattle.tasks.proofs.Answers.{sheet-reading}
-use Rattle.ronchhek.specs.Cuts.{firstNumber, firstSpace}
-use Rattle.ronchhek.proofs.CutLaws.{cut-refused, cut-first}
+use Rattle.tasks.proofs.Answers.{sheet_reading}
+use Rattle.ronchhek.specs.Cuts.{first_number, first_space}
+use Rattle.ronchhek.proofs.CutLaws.{cut_refused, cut-first}
 use borrow.Author.Rules.{rules}
 use Rattle.ronchhek.proofs.cuts.ronchhek_cut.Statement.{statement}
 use Rattle.ronchhek.proofs.cuts.ronchhek_cut.Tie as tie
@@ -26,7 +26,7 @@ returns : tie.Need-returns
 returns c =
     let h = c.before.before.before.before in
     let a = h.before.before.before.args in
-    cut-refused a.sheet.now a.k a.out.now (sheet-reading h.read-sheet.ensures ∙ c.before.answer.given.1)
+    cut_refused a.sheet.now a.k a.out.now (sheet_reading h.read-sheet.ensures ∙ c.before.answer.given.1)
 
 same_length : tie.Need-same-length
 same_length c = search rules
@@ -37,8 +37,8 @@ returns-2 c =
     let h = c.before.before.before.before.before.before.before in
     let a = h.before.before.before.args in
     let read = h.read-sheet.ensures in
-    let is = cut-first a.sheet.now a.k a.out.now (sheet-reading read ∙ c.before.before.before.before.enum_told.given.1) in
-    (w.0 ∙ ap (λ t. firstNumber t a.k a.out.now) read.1 ∙ is.0, w.1 ∙ ap (λ t. firstSpace t a.k a.out.now) read.1 ∙ is.1)
+    let is = cut-first a.sheet.now a.k a.out.now (sheet_reading read ∙ c.before.before.before.before.enum_told.given.1) in
+    (w.0 ∙ ap (λ t. first_number t a.k a.out.now) read.1 ∙ is.0, w.1 ∙ ap (λ t. first_space t a.k a.out.now) read.1 ∙ is.1)
 
 pub ronchhek-cut-spec : {M : Type 1} → statement M
 ronchhek-cut-spec =

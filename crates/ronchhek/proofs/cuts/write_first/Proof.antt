@@ -1,9 +1,9 @@
 -- The table is not cut, or the cut table is written. Assumes nothing.
 use mathlib.Core.Path.{ap, ◌∙◌}
-use Rattle.tasks.specs.Sheet.{writeOut}
-use Rattle.tasks.proofs.Answers.{sheet-reading}
-use Rattle.ronchhek.specs.Tables.{sheetNumber}
-use Rattle.ronchhek.proofs.CutLaws.{first-refused, first-written}
+use Rattle.tasks.specs.Sheet.{write_out}
+use Rattle.tasks.proofs.Answers.{sheet_reading}
+use Rattle.ronchhek.specs.Tables.{sheet_number}
+use Rattle.ronchhek.proofs.CutLaws.{first_refused, first-written}
 use borrow.Author.Rules.{rules}
 use Rattle.ronchhek.proofs.cuts.write_first.Statement.{statement}
 use Rattle.ronchhek.proofs.cuts.write_first.Tie as tie
@@ -27,7 +27,7 @@ returns : tie.Need-returns
 returns c =
     let h = c.before.before.before.before in
     let a = h.before.before.args in
-    first-refused a.t a.k a.out.now (sheet-reading h.cut-table.ensures ∙ c.before.answer.given.1)
+    first_refused a.t a.k a.out.now (sheet_reading h.cut-table.ensures ∙ c.before.answer.given.1)
 
 same_length : tie.Need-same-length
 same_length c = search rules
@@ -38,8 +38,8 @@ returns-2 c =
     let h = c.before.before.before.before.before.before.before in
     let a = h.before.before.args in
     let cut = h.cut-table.ensures in
-    let is = first-written a.t a.k a.out.now (sheet-reading cut ∙ c.before.before.before.before.enum_told.given.1) in
-    (w.0 ∙ ap (λ t. sheetNumber t a.out.now) cut.1 ∙ is.0, w.1 ∙ ap (λ t. writeOut t a.out.now) cut.1 ∙ is.1)
+    let is = first-written a.t a.k a.out.now (sheet_reading cut ∙ c.before.before.before.before.enum_told.given.1) in
+    (w.0 ∙ ap (λ t. sheet_number t a.out.now) cut.1 ∙ is.0, w.1 ∙ ap (λ t. write_out t a.out.now) cut.1 ∙ is.1)
 
 pub write-first-spec : {M : Type 1} → statement M
 write-first-spec =

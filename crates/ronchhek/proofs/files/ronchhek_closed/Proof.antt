@@ -1,6 +1,6 @@
 -- The number of each answer. Assumes nothing.
 use Rattle.closed.specs.declared.check.ClosedAnswer.TheVariants as ClosedAnswer
-use Rattle.ronchhek.proofs.FileLaws.{file-judged}
+use Rattle.ronchhek.proofs.FileLaws.{file_judged}
 use borrow.Author.Rules.{rules}
 use Rattle.ronchhek.proofs.files.ronchhek_closed.Statement.{statement}
 use Rattle.ronchhek.proofs.files.ronchhek_closed.Tie as tie
@@ -26,17 +26,17 @@ cast-result c = search rules
 returns : tie.Need-returns
 returns c =
     let a = c.before.before.before.before.before.args in
-    file-judged a.sheet.now a.states.now ClosedAnswer.Accepted (rw c.enum_told.given.1 at c.before.before.closed-sheet.ensures)
+    file_judged a.sheet.now a.states.now ClosedAnswer.Accepted (rw c.enum_told.given.1 at c.before.before.closed-sheet.ensures)
 
 returns-2 : tie.Need-returns-2
 returns-2 c =
     let a = c.before.before.before.before.before.args in
-    file-judged a.sheet.now a.states.now ClosedAnswer.No (rw c.enum-told2.given.1 at c.before.before.closed-sheet.ensures)
+    file_judged a.sheet.now a.states.now ClosedAnswer.No (rw c.enum-told2.given.1 at c.before.before.closed-sheet.ensures)
 
 returns-3 : tie.Need-returns-3
 returns-3 c =
     let a = c.before.before.before.before.before.before.args in
-    file-judged a.sheet.now a.states.now (ClosedAnswer.Refused _) (rw c.before.r.given.1 at c.before.before.before.closed-sheet.ensures)
+    file_judged a.sheet.now a.states.now (ClosedAnswer.Refused _) (rw c.before.r.given.1 at c.before.before.before.closed-sheet.ensures)
 
 pub ronchhek-closed-spec : {M : Type 1} → statement M
 ronchhek-closed-spec =

@@ -1,9 +1,9 @@
 -- Policy, m or n is refused, or the practice table is written. Assumes nothing.
 use mathlib.Core.Path.{◌≡◌, ap, ◌∙◌}
-use Rattle.tasks.specs.Sheet.{writeOut}
-use Rattle.tasks.proofs.Answers.{sheet-reading}
-use Rattle.practice.proofs.Theorems.{answer-made}
-use Rattle.ronchhek.specs.Tables.{sheetNumber}
+use Rattle.tasks.specs.Sheet.{write_out}
+use Rattle.tasks.proofs.Answers.{sheet_reading}
+use Rattle.practice.proofs.Theorems.{answer_made}
+use Rattle.ronchhek.specs.Tables.{sheet_number}
 use Rattle.ronchhek.proofs.PracticeLaws.{number-refused, practice-written}
 use borrow.Author.Rules.{rules}
 use Rattle.ronchhek.proofs.practices.ronchhek_practice.Statement.{statement}
@@ -28,7 +28,7 @@ returns : tie.Need-returns
 returns c =
     let h = c.before.before.before.before in
     let a = h.before.before.args in
-    number-refused a.policy a.m a.n a.seed a.out.now (sheet-reading h.practice-table.ensures ∙ c.before.answer.given.1)
+    number-refused a.policy a.m a.n a.seed a.out.now (sheet_reading h.practice-table.ensures ∙ c.before.answer.given.1)
 
 same_length : tie.Need-same-length
 same_length c = search rules
@@ -39,9 +39,9 @@ returns-2 c =
     let h = c.before.before.before.before.before.before.before in
     let a = h.before.before.args in
     let made = h.practice-table.ensures in
-    let table_is = made.1 ∙ answer-made a.policy a.m a.n a.seed (sheet-reading made ∙ c.before.before.before.before.enum_told.given.1) in
+    let table_is = made.1 ∙ answer_made a.policy a.m a.n a.seed (sheet_reading made ∙ c.before.before.before.before.enum_told.given.1) in
     let is = practice-written a.policy a.m a.n a.seed a.out.now in
-    (w.0 ∙ ap (λ t. sheetNumber t a.out.now) table_is ∙ is.0, w.1 ∙ ap (λ t. writeOut t a.out.now) table_is ∙ is.1)
+    (w.0 ∙ ap (λ t. sheet_number t a.out.now) table_is ∙ is.0, w.1 ∙ ap (λ t. write_out t a.out.now) table_is ∙ is.1)
 
 pub ronchhek-practice-spec : {M : Type 1} → statement M
 ronchhek-practice-spec =

@@ -1,5 +1,5 @@
 -- A tick below 2^48 has room beside the kind. Assumes nothing.
-use Rattle.tasks.specs.Replay.{outcomeTick}
+use Rattle.tasks.specs.Replay.{outcome_tick}
 use native.Mathlib.Omega.{arith}
 use borrow.Author.Rules.{rules}
 use Rattle.ronchhek.proofs.replays.outcome_number.Statement.{statement}
@@ -15,7 +15,7 @@ mul-result : tie.Need-overflow-mul-result
 mul-result c = search rules
 
 add-result : tie.Need-overflow-add-result
-unfolding outcomeTick
+unfolding outcome_tick
 add-result c = omega (arith, rw c.before.o.given.1 at c.before.before.before.requires)
 
 returns : tie.Need-returns

@@ -1,10 +1,10 @@
 -- Each exit is one of the ways of ReplayLaws, and leaves the totals. Assumes nothing.
 use mathlib.Core.Path.{◌≡◌, sym, ap, ◌∙◌}
-use Rattle.tasks.specs.Replay.{replayTick, outcomeTick}
-use Rattle.tasks.proofs.Answers.{replay-is, writing-is}
-use Rattle.ronchhek.specs.Replays.{refusedAt}
-use Rattle.ronchhek.proofs.ReplayLaws.{told, not_written, written-room, long-number, refused-number, unwritten-number, played-number}
-use Rattle.ronchhek.proofs.ServiceLaws.{long-totals, table-written}
+use Rattle.tasks.specs.Replay.{replay_tick, outcome_tick}
+use Rattle.tasks.proofs.Answers.{replay_is, writing_is}
+use Rattle.ronchhek.specs.Replays.{refused_at}
+use Rattle.ronchhek.proofs.ReplayLaws.{told, not_written, written_room, long_number, refused_number, unwritten_number, played_number}
+use Rattle.ronchhek.proofs.ServiceLaws.{long_totals, table-written}
 use native.Mathlib.Omega.{arith}
 use borrow.Author.Rules.{rules}
 use Rattle.ronchhek.proofs.services.service_table.Statement.{statement}
@@ -17,7 +17,7 @@ returns : tie.Need-returns
 returns c =
     let a = c.before.before.before.before.args in
     let long = c.before.if1.true in
-    (c.refused-at.ensures ∙ long-number 192 a.t a.list.now a.totals.now long, long-totals a.t a.list.now a.totals.now long)
+    (c.refused-at.ensures ∙ long_number 192 a.t a.list.now a.totals.now long, long_totals a.t a.list.now a.totals.now long)
 
 service-requires : tie.Need-service-requires
 service-requires c κs = search rules
@@ -29,10 +29,10 @@ enum-known-answer : tie.Need-enum-known-answer
 enum-known-answer c = search rules
 
 refused-at-requires-2 : tie.Need-refused-at-requires-2
-unfolding replayTick
+unfolding replay_tick
 refused-at-requires-2 c κs =
     let r = c.before.before.before.before.before.before.before.before.service in
-    let n : replayTick r.result.replayed.answer ≡ c.before.answer.given.0.1.0 = ap replayTick c.before.answer.given.1 in
+    let n : replay_tick r.result.replayed.answer ≡ c.before.answer.given.0.1.0 = ap replay_tick c.before.answer.given.1 in
     omega (arith, r.ensures.4, c.before.before.before.before.before.before.before.before.before.if1.false)
 
 enum-known-answer-2 : tie.Need-enum-known-answer-2
@@ -48,10 +48,10 @@ enum_told : tie.Need-enum-told
 enum_told c = search rules
 
 outcome-number-requires : tie.Need-outcome-number-requires
-unfolding replayTick
+unfolding replay_tick
 outcome-number-requires c κs =
     let r = c.before.before.before.before.before.before.before.before.before.before.service in
-    let n : replayTick r.result.replayed.answer ≡ outcomeTick c.before.before.before.answer2.given.0.0 = ap replayTick c.before.before.before.answer2.given.1 in
+    let n : replay_tick r.result.replayed.answer ≡ outcome_tick c.before.before.before.answer2.given.0.0 = ap replay_tick c.before.before.before.answer2.given.1 in
     omega (arith, r.ensures.4, c.before.before.before.before.before.before.before.before.before.before.before.if1.false)
 
 same_length : tie.Need-same-length
@@ -64,8 +64,8 @@ returns-2 c =
     let short = c.before.before.before.before.before.before.before.before.before.before.if1.false in
     let r = c.before.before.before.before.before.before.before.before.before.service in
     let left = table-written a.t a.list.now a.totals.now h.requires short r.ensures.2 c.before.before.before.before.before.before.write-totals.ensures.1 in
-    let refused = told (replay-is (r.ensures.0, r.ensures.1)) ∙ c.before.before.answer.given.1 in
-    (c.refused-at2.ensures ∙ refused-number 192 a.t a.list.now a.totals.now short _ _ refused, left)
+    let refused = told (replay_is (r.ensures.0, r.ensures.1)) ∙ c.before.before.answer.given.1 in
+    (c.refused-at2.ensures ∙ refused_number 192 a.t a.list.now a.totals.now short _ _ refused, left)
 
 same-length-2 : tie.Need-same-length-2
 same-length-2 c = search rules
@@ -77,9 +77,9 @@ returns-3 c =
     let short = c.before.before.before.before.before.before.before.before.before.before.before.before.before.if1.false in
     let r = c.before.before.before.before.before.before.before.before.before.before.before.before.service in
     let left = table-written a.t a.list.now a.totals.now h.requires short r.ensures.2 c.before.before.before.before.before.before.before.before.before.write-totals.ensures.1 in
-    let played = told (replay-is (r.ensures.0, r.ensures.1)) ∙ c.before.before.before.before.before.answer2.given.1 in
-    let none = not_written 192 a.totals.now (sym c.before.before.written.given.1 ∙ writing-is c.before.before.before.before.before.before.before.before.before.write-totals.ensures.0) in
-    (c.refused-at3.ensures ∙ ap (λ n. refusedAt n 0) none.1 ∙ unwritten-number 192 a.t a.list.now a.totals.now short _ played none.0, left)
+    let played = told (replay_is (r.ensures.0, r.ensures.1)) ∙ c.before.before.before.before.before.answer2.given.1 in
+    let none = not_written 192 a.totals.now (sym c.before.before.written.given.1 ∙ writing_is c.before.before.before.before.before.before.before.before.before.write-totals.ensures.0) in
+    (c.refused-at3.ensures ∙ ap (λ n. refused_at n 0) none.1 ∙ unwritten_number 192 a.t a.list.now a.totals.now short _ played none.0, left)
 
 same-length-3 : tie.Need-same-length-3
 same-length-3 c = search rules
@@ -91,9 +91,9 @@ returns-4 c =
     let short = c.before.before.before.before.before.before.before.before.before.before.before.before.if1.false in
     let r = c.before.before.before.before.before.before.before.before.before.before.before.service in
     let left = table-written a.t a.list.now a.totals.now h.requires short r.ensures.2 c.before.before.before.before.before.before.before.before.write-totals.ensures.1 in
-    let played = told (replay-is (r.ensures.0, r.ensures.1)) ∙ c.before.before.before.before.answer2.given.1 in
-    let room = written-room 192 a.totals.now (sym c.before.enum_told.given.1 ∙ writing-is c.before.before.before.before.before.before.before.before.write-totals.ensures.0) in
-    (c.outcome-number.ensures ∙ played-number 192 a.t a.list.now a.totals.now short _ played room, left)
+    let played = told (replay_is (r.ensures.0, r.ensures.1)) ∙ c.before.before.before.before.answer2.given.1 in
+    let room = written_room 192 a.totals.now (sym c.before.enum_told.given.1 ∙ writing_is c.before.before.before.before.before.before.before.before.write-totals.ensures.0) in
+    (c.outcome-number.ensures ∙ played_number 192 a.t a.list.now a.totals.now short _ played room, left)
 
 pub service-table-spec : {M : Type 1} → statement M
 service-table-spec =

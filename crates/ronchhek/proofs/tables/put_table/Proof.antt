@@ -3,9 +3,9 @@ use Prim.Native.Nat.{ℕ, suc, ◌+◌, ◌-◌, ◌*◌, ◌≤◌}
 use mathlib.Core.Path.{◌≡◌, ◌∙◌}
 use mathlib.Core.List.{[], ◌∷◌}
 use lib.ListN.{length, get_or, set, length-set}
-use Rattle.tasks.proofs.Stores.{Storing, storing-start, storing-step, storing-end}
-use Rattle.ronchhek.specs.Tables.{entries, tableBytes}
-use Rattle.ronchhek.proofs.TableLaws.{entries-turn, entries-end, entries-length}
+use Rattle.tasks.proofs.Stores.{Storing, storing_start, storing-step, storing_end}
+use Rattle.ronchhek.specs.Tables.{entries, table_bytes}
+use Rattle.ronchhek.proofs.TableLaws.{entries-turn, entries_end, entries_length}
 use native.Mathlib.Omega.{arith}
 use borrow.Author.Rules.{rules}
 use Rattle.ronchhek.proofs.tables.put_table.Statement.{statement}
@@ -30,7 +30,7 @@ loop-holds : tie.Need-loop-init invariant-loop decreases-loop
 loop-holds c =
     let a = c.args in
     let l : length (set (set (set a.out.now 0 a.t2.policy) 1 a.t2.m) 2 a.t2.n) ≡ length a.out.now = simp length-set in
-    (omega arith, omega arith, storing-start _ 3 (entries a.t2 8 0) (omega (arith, entries-length a.t2 8 0)))
+    (omega arith, omega arith, storing_start _ 3 (entries a.t2 8 0) (omega (arith, entries_length a.t2 8 0)))
 
 mul_at : tie.Need-overflow-mul-at invariant-loop decreases-loop
 mul_at c = search rules
@@ -86,8 +86,8 @@ same_length : tie.Need-same-length invariant-loop decreases-loop
 same_length c = c.before.loop.invariant.2.len ∙ simp length-set
 
 returns : tie.Need-returns invariant-loop decreases-loop
-unfolding tableBytes
-returns c = storing-end (rw (entries-end _ c.before.loop.i c.loop-test.false) at c.before.loop.invariant.2)
+unfolding table_bytes
+returns c = storing_end (rw (entries_end _ c.before.loop.i c.loop-test.false) at c.before.loop.invariant.2)
 
 pub put-table-spec : {M : Type 1} → statement M
 put-table-spec =

@@ -1,4 +1,4 @@
-use Rattle.ronchhek.specs.Tables.{tableFrom}
+use Rattle.ronchhek.specs.Tables.{table_from}
 use borrow.Author.Rules.{rules}
 use Rattle.ronchhek.proofs.tables.table_from.Statement.{statement}
 use Rattle.ronchhek.proofs.tables.table_from.Tie as tie
@@ -22,7 +22,7 @@ column-requires-3 : tie.Need-column-requires-3
 column-requires-3 c κs = search rules
 
 returns : tie.Need-returns
-unfolding tableFrom
+unfolding table_from
 returns c = rw (c.before.before.column.ensures, c.before.column2.ensures, c.column3.ensures)
 
 pub table-from-spec : {M : Type 1} → statement M

@@ -1,7 +1,7 @@
 -- The table's sheet is written or refused. Assumes nothing.
 use mathlib.Core.Path.{sym, ap, ◌∙◌}
-use Rattle.tasks.specs.Answers.{writingAnswer}
-use Rattle.ronchhek.proofs.TableLaws.{sheet-refused, sheet-written}
+use Rattle.tasks.specs.Answers.{writing_answer}
+use Rattle.ronchhek.proofs.TableLaws.{sheet_refused, sheet_written}
 use native.Mathlib.Omega.{arith}
 use borrow.Author.Rules.{rules}
 use Rattle.ronchhek.proofs.tables.write_table.Statement.{statement}
@@ -23,7 +23,7 @@ add-result : tie.Need-overflow-add-result
 add-result c =
     let h = c.before.before.before.before.before in
     let a = h.before.before.before.args in
-    let w = sheet-written a.t a.out.now (ap writingAnswer (sym c.before.n.given.1) ∙ h.write-sheet.ensures.0) in
+    let w = sheet_written a.t a.out.now (ap writing_answer (sym c.before.n.given.1) ∙ h.write-sheet.ensures.0) in
     omega (arith, w.0)
 
 same_length : tie.Need-same-length
@@ -33,7 +33,7 @@ returns : tie.Need-returns
 returns c =
     let h = c.before.before.before.before.before in
     let a = h.before.before.before.args in
-    (sheet-refused a.t a.out.now (ap writingAnswer (sym c.before.r.given.1) ∙ h.write-sheet.ensures.0), h.write-sheet.ensures.1)
+    (sheet_refused a.t a.out.now (ap writing_answer (sym c.before.r.given.1) ∙ h.write-sheet.ensures.0), h.write-sheet.ensures.1)
 
 same-length-2 : tie.Need-same-length-2
 same-length-2 c = search rules
@@ -42,7 +42,7 @@ returns-2 : tie.Need-returns-2
 returns-2 c =
     let h = c.before.before.before.before.before in
     let a = h.before.before.before.args in
-    ((sheet-written a.t a.out.now (ap writingAnswer (sym c.before.n.given.1) ∙ h.write-sheet.ensures.0)).1, h.write-sheet.ensures.1)
+    ((sheet_written a.t a.out.now (ap writing_answer (sym c.before.n.given.1) ∙ h.write-sheet.ensures.0)).1, h.write-sheet.ensures.1)
 
 pub write-table-spec : {M : Type 1} → statement M
 write-table-spec =

@@ -4,18 +4,18 @@ use Prim.Native.Nat.{ℕ, ◌-◌, ◌≤◌, ◌<◌}
 use mathlib.Core.Logic.{⊎_elim}
 use Rattle.tasks.specs.State.{improper}
 use Rattle.tasks.specs.Tick.{after, missed}
-use Rattle.tasks.specs.Masks.{freeMask}
-use Rattle.tasks.specs.Ticker.{tickedBy}
+use Rattle.tasks.specs.Masks.{free_mask}
+use Rattle.tasks.specs.Ticker.{ticked_by}
 use Rattle.tasks.specs.Words.{state_of}
 use Rattle.tasks.proofs.InWords.{WordList}
 use Rattle.tasks.proofs.Free.{ticks, frees}
 use Rattle.levels.specs.Levels.{Calm, Hunting}
-use Rattle.levels.proofs.Explore.{hunt-start}
+use Rattle.levels.proofs.Explore.{hunt_start}
 use Rattle.states.specs.System.{system}
-use Rattle.states.specs.Bytes.{stateIn}
-use Rattle.states.proofs.MaskLaws.{walked_start, walked_next, walked-falls}
-use Rattle.states.proofs.MissLaws.{calm-by}
-use Rattle.search.proofs.HuntLaws.{CalmTo, calm-end, hunt-turn, miss-from}
+use Rattle.states.specs.Bytes.{state_in}
+use Rattle.states.proofs.MaskLaws.{walked_start, walked_next, walked_falls}
+use Rattle.states.proofs.MissLaws.{calm_by}
+use Rattle.search.proofs.HuntLaws.{CalmTo, calm_end, hunt_turn, miss_from}
 use native.Mathlib.Omega.{arith}
 use borrow.Author.Rules.{rules}
 use Rattle.search.proofs.hunt.hunt.Statement.{statement}
@@ -23,14 +23,14 @@ use Rattle.search.proofs.hunt.hunt.Tie as tie
 
 abbrev invariant-loop : tie.invariant-loop
 invariant-loop t ticker work lo hi i free state m₀ m =
-    CalmTo t (stateIn work i) free m × (free ≡ freeMask t (stateIn work i))
-    × ((mask : ℕ) → state_of (tickedBy ticker state mask) ≡ after t (stateIn work i) mask)
+    CalmTo t (state_in work i) free m × (free ≡ free_mask t (state_in work i))
+    × ((mask : ℕ) → state_of (ticked_by ticker state mask) ≡ after t (state_in work i) mask)
 
 abbrev decreases-loop : tie.decreases-loop
 decreases-loop t ticker work lo hi i free state m₀ m = 256 - m
 
 abbrev invariant-hunt : tie.invariant-hunt
-invariant-hunt t ticker work lo hi i₀ i = (lo ≤ i) × (i ≤ hi) × Hunting (system t) (stateIn work) lo i
+invariant-hunt t ticker work lo hi i₀ i = (lo ≤ i) × (i ≤ hi) × Hunting (system t) (state_in work) lo i
 
 abbrev decreases-hunt : tie.decreases-hunt
 decreases-hunt t ticker work lo hi i₀ i = hi - i
@@ -40,7 +40,7 @@ word-list : (c : tie.After-words-in invariant-loop decreases-loop invariant-hunt
 word-list c = record { word = λ i h. search rules }
 
 hunt-holds : tie.Need-hunt-init invariant-loop decreases-loop invariant-hunt decreases-hunt
-hunt-holds c = let r = c.before.requires in (omega arith, omega arith, hunt-start (system _))
+hunt-holds c = let r = c.before.requires in (omega arith, omega arith, hunt_start (system _))
 
 words-in-requires : tie.Need-words-in-requires invariant-loop decreases-loop invariant-hunt decreases-hunt
 words-in-requires c κs = search rules
@@ -63,7 +63,7 @@ loop-holds c =
     let ne = c.before.before.before.before.before.if1.false in
     let below : h.i < s.args.hi = omega (arith, h.invariant.1) in (
       walked_start _ (omega (arith, c.before.free.type-inv)),
-      frees _ _ s.requires.0 c.before.free.ensures ∙ ap (freeMask _) w.words-in.ensures,
+      frees _ _ s.requires.0 c.before.free.ensures ∙ ap (free_mask _) w.words-in.ensures,
       λ mask. ticks _ _ s.requires.0 c.prepare.ensures level.valid (ap (improper _) w.words-in.ensures ∙ level.proper _ below) (word-list w) mask ∙ ap (λ u. after s.args.t u mask) w.words-in.ensures,
     )
 
@@ -82,7 +82,7 @@ follow-requires c κs = search rules
 loop-less : tie.Need-loop-smaller invariant-loop decreases-loop invariant-hunt decreases-hunt
 loop-less c =
     let x = c.before.before.before.before.before.loop.invariant.0 in
-    rw c.follow.ensures (omega (arith, walked-falls _ (omega (arith, c.before.before.before.before.before.before.before.free.type-inv)) x c.before.before.before.before.loop-test.true, x.most))
+    rw c.follow.ensures (omega (arith, walked_falls _ (omega (arith, c.before.before.before.before.before.before.before.free.type-inv)) x c.before.before.before.before.loop-test.true, x.most))
 
 loop-again : tie.Need-loop-preserved invariant-loop decreases-loop invariant-hunt decreases-hunt
 loop-again c =
@@ -106,14 +106,14 @@ hunt-again c =
     let ne = c.before.before.before.if1.false in
     let a = c.before.before.before.before.before.before.args in
     let below : h.i < a.hi = omega arith in
-    let s = stateIn a.work.now h.i in
+    let s = state_in a.work.now h.i in
     let proper = level.proper h.i below in
     let calm : Calm (system a.t) s =
     ⊎_elim
-    (λ w. calm-end a.t level.valid s proper (rw (← w.3.inv.1) w.3.inv.0) w.4.left)
-    (λ w. calm-by a.t level.valid s proper c.before.before.words-in.ensures c.before.before.before.before.before.before.requires.0 (word-list c.before.before) (sym c.before.has-miss.ensures ∙ w.left))
+    (λ w. calm_end a.t level.valid s proper (rw (← w.3.inv.1) w.3.inv.0) w.4.left)
+    (λ w. calm_by a.t level.valid s proper c.before.before.words-in.ensures c.before.before.before.before.before.before.requires.0 (word-list c.before.before) (sym c.before.has-miss.ensures ∙ w.left))
     c.if2.branch in
-    (omega arith, omega arith, hunt-turn a.t a.work.now h.invariant.2 calm)
+    (omega arith, omega arith, hunt_turn a.t a.work.now h.invariant.2 calm)
 
 returns : tie.Need-returns invariant-loop decreases-loop invariant-hunt decreases-hunt
 returns c = rw c.if1.true at c.before.hunt.invariant.2
@@ -125,7 +125,7 @@ returns-2 c =
     let s = c.before.before.before.before.before.before.before.before.before.before.before.before.before in
     let x = c.before.before.before.before.loop.invariant in
     let b = c.before.before.before.loop-test.true in
-    miss-from s.requires.2 h.invariant.0 (omega arith) b
+    miss_from s.requires.2 h.invariant.0 (omega arith) b
     (rw (← x.1) (x.0.is b))
     (ap (missed s.args.t) (sym (x.2 _)) ∙ ap (λ v. missed s.args.t (state_of v)) (sym c.before.before.after.ensures) ∙ sym c.before.misses.ensures ∙ c.if3.true)
 

@@ -3,20 +3,20 @@ use Prim.Native.Nat.{◌-◌}
 use mathlib.Core.Path.{◌≡◌, sym, ◌∙◌}
 use lib.ListN.{length}
 use Rattle.tasks.specs.Words.{state_of}
-use Rattle.levels.proofs.Index.{Walk, walk_start, walk-next, walk-falls, walk_end}
-use Rattle.states.specs.Keys.{keyIn}
-use Rattle.search.specs.Indexed.{bucketFor, bucketOf, tag_of, newest, tagsIn}
+use Rattle.levels.proofs.Index.{Walk, walk_start, walk_next, walk_falls, walk_end}
+use Rattle.states.specs.Keys.{key_in}
+use Rattle.search.specs.Indexed.{bucket_for, bucket_of, tag_of, newest, tags_in}
 use Rattle.states.proofs.WordLaws.{word_bytes}
-use Rattle.states.proofs.KeyLaws.{Bytes, keys-same, keys-differ}
+use Rattle.states.proofs.KeyLaws.{Bytes, keys_same, keys_differ}
 use Rattle.search.proofs.IndexLaws.{keyed, not-tagged}
-use Rattle.states.proofs.ColumnLaws.{held, held-key}
+use Rattle.states.proofs.ColumnLaws.{held, held_key}
 use native.Mathlib.Omega.{arith}
 use borrow.Author.Rules.{rules}
 use Rattle.search.proofs.index.holds.Statement.{statement}
 use Rattle.search.proofs.index.holds.Tie as tie
 
 abbrev invariant-loop : tie.invariant-loop
-invariant-loop work heads k n key b head cur₀ cur = Walk (bucketFor (length heads)) (keyIn work) n key cur
+invariant-loop work heads k n key b head cur₀ cur = Walk (bucket_for (length heads)) (key_in work) n key cur
 
 abbrev decreases-loop : tie.decreases-loop
 decreases-loop work heads k n key b head cur₀ cur = cur
@@ -40,7 +40,7 @@ tag-bit-requires : tie.Need-tag-bit-requires invariant-loop decreases-loop
 tag-bit-requires c κs = search rules
 
 returns : tie.Need-returns invariant-loop decreases-loop
-unfolding bucketOf tag_of tagsIn
+unfolding bucket_of tag_of tags_in
 returns c =
     let start = c.before.before.before.before.before.before.before in
     not-tagged start.requires (state_of start.args.v) (rw (c.before.before.before.bucket.ensures.0, c.before.tag-bit.ensures.0, c.before.before.before.before.key_of.ensures) at c.if1.true)
@@ -67,7 +67,7 @@ returns-2 c =
     let key = l.before.before.before.before.before in
     let known = key.before.before in
     let start = known.before in
-    let e = keys-same _ _ (sym c.before.same_keys.ensures ∙ c.if2.true) in
+    let e = keys_same _ _ (sym c.before.same_keys.ensures ∙ c.if2.true) in
     held _ (state_of start.args.v) known.shared-slice-known.given (bytes start)
     (record { place = l.loop.cur - 1; below = omega (arith, l.loop.invariant.low); same = sym c.before.before.key_in.ensures ∙ e ∙ key.key_of.ensures })
 
@@ -81,15 +81,15 @@ loop-less : tie.Need-loop-smaller invariant-loop decreases-loop
 loop-less c =
     let l = c.before.before.before.before.before in
     let key = l.before.before.before.before.before in
-    rw c.link-of.ensures (walk-falls (keyed key.before.before.before.requires) key.key_of.result l.loop.cur (omega arith) l.loop.invariant)
+    rw c.link-of.ensures (walk_falls (keyed key.before.before.before.requires) key.key_of.result l.loop.cur (omega arith) l.loop.invariant)
 
 loop-again : tie.Need-loop-preserved invariant-loop decreases-loop
 loop-again c =
     let l = c.before.before.before.before.before in
     let key = l.before.before.before.before.before in
-    let differ = keys-differ _ _ (sym c.before.before.same_keys.ensures ∙ c.before.if2.false) in
+    let differ = keys_differ _ _ (sym c.before.before.same_keys.ensures ∙ c.before.if2.false) in
     rw c.link-of.ensures
-    (walk-next (keyed key.before.before.before.requires) key.key_of.result l.loop.cur (omega arith) l.loop.invariant
+    (walk_next (keyed key.before.before.before.requires) key.key_of.result l.loop.cur (omega arith) l.loop.invariant
     (λ q. differ (c.before.before.before.key_in.ensures ∙ q)))
 
 returns-3 : tie.Need-returns-3 invariant-loop decreases-loop
@@ -97,7 +97,7 @@ returns-3 c =
     let l = c.before in
     let e : l.loop.cur ≡ 0 = omega arith in
     let none = rw l.before.before.before.before.before.key_of.ensures at (walk_end (rw e at l.loop.invariant)) in
-    λ h. none (held-key _ _ h)
+    λ h. none (held_key _ _ h)
 
 pub holds-spec : {M : Type 1} → statement M
 holds-spec =

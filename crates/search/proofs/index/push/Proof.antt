@@ -4,11 +4,11 @@ use mathlib.Core.Path.{ap, ◌∙◌}
 use native.Mathlib.Numerals.{add-one}
 use lib.ListN.{get_or}
 use Rattle.tasks.specs.Words.{state_of}
-use Rattle.search.specs.Indexed.{bucketFor, bucketOf, tag_of, newest, tagsIn}
-use Rattle.slots.proofs.RunningLaws.{word-link, word-place, put-slot}
+use Rattle.search.specs.Indexed.{bucket_for, bucket_of, tag_of, newest, tags_in}
+use Rattle.slots.proofs.RunningLaws.{word_link, word_place, put-slot}
 use Rattle.states.proofs.WordLaws.{word_bytes}
 use Rattle.states.proofs.KeyLaws.{Bytes}
-use Rattle.search.proofs.TagLaws.{tags-fit}
+use Rattle.search.proofs.TagLaws.{tags_fit}
 use Rattle.search.proofs.IndexLaws.{pushed}
 use native.Mathlib.Omega.{arith}
 use borrow.Author.Rules.{rules}
@@ -43,7 +43,7 @@ tag-bit-requires : tie.Need-tag-bit-requires
 tag-bit-requires c κs = search rules
 
 mul-heads : tie.Need-overflow-mul-heads
-mul-heads c = let f = tags-fit _ _ (heads-fit c.before.before.before.before.before.before.before.before.before c.before.before.before.before.before.before.before.bucket.result) c.tag-bit.ensures.1 in omega arith
+mul-heads c = let f = tags_fit _ _ (heads-fit c.before.before.before.before.before.before.before.before.before c.before.before.before.before.before.before.before.bucket.result) c.tag-bit.ensures.1 in omega arith
 
 add-heads : tie.Need-overflow-add-heads
 add-heads c = let x = c.before.before.before.before.before.before.before.before.before.before.before.requires in let n = x.1 in let k = x.0.few in omega arith
@@ -52,7 +52,7 @@ cast-heads : tie.Need-overflow-cast-heads
 cast-heads c = let x = c.before.before.before.before.before.before.before.before.before.before.before.requires in let n = x.1 in let k = x.0.few in omega arith
 
 add-heads-2 : tie.Need-overflow-add-heads-2
-add-heads-2 c = let f = tags-fit _ _ (heads-fit c.before.before.before.before.before.before.before.before.before c.before.before.before.before.before.before.before.bucket.result) c.tag-bit.ensures.1 in let x = c.before.before.before.before.before.before.before.before.before.before.before.requires in let n = x.1 in let k = x.0.few in omega arith
+add-heads-2 c = let f = tags_fit _ _ (heads-fit c.before.before.before.before.before.before.before.before.before c.before.before.before.before.before.before.before.bucket.result) c.tag-bit.ensures.1 in let x = c.before.before.before.before.before.before.before.before.before.before.before.requires in let n = x.1 in let k = x.0.few in omega arith
 
 mul-heads-2 : tie.Need-overflow-mul-heads-2
 mul-heads-2 c = search rules
@@ -67,7 +67,7 @@ same-length-2 : tie.Need-same-length-2
 same-length-2 c = search rules
 
 returns : tie.Need-returns
-unfolding bucketOf newest tagsIn tag_of
+unfolding bucket_of newest tags_in tag_of
 returns c =
     let start = c.before.before.before.before.before.before.before.before.before.before.before in
     let a = start.args in
@@ -75,10 +75,10 @@ returns c =
     let bucket = c.before.before.before.before.before.before.before.bucket in
     let word = c.before.before.before.before.before.word_of in
     let fits = bytes start in
-    let put = put-slot a.work.now (state_of a.v) word.result a.mask start.requires.1 start.requires.0.fits fits.c-length fits.p-length (omega (arith, word.type-inv)) in
+    let put = put-slot a.work.now (state_of a.v) word.result a.mask start.requires.1 start.requires.0.fits fits.c_length fits.p_length (omega (arith, word.type-inv)) in
     rw (c.before.before.before.put-slot.ensures, c.tag-bit.ensures.0, key, add-one a.n)
-    (pushed start.requires.0 put start.requires.1 bucket.result (ap (λ x. x % 1048576) word.ensures ∙ word-link a.parent _ (omega arith))
-    (bucket.ensures.0 ∙ ap (bucketFor _) key) bucket.ensures.1 (ap (λ x. x / 1048576) word.ensures ∙ word-place a.parent _ (omega arith)))
+    (pushed start.requires.0 put start.requires.1 bucket.result (ap (λ x. x % 1048576) word.ensures ∙ word_link a.parent _ (omega arith))
+    (bucket.ensures.0 ∙ ap (bucket_for _) key) bucket.ensures.1 (ap (λ x. x / 1048576) word.ensures ∙ word_place a.parent _ (omega arith)))
 
 pub push_spec : {M : Type 1} → statement M
 push_spec =

@@ -1,7 +1,7 @@
 -- One bit of twelve. Assumes nothing.
 use Prim.Native.Nat.{◌/◌, ◌%◌, ◌^◌}
 use mathlib.Core.Path.{ap, ◌∙◌}
-use Rattle.search.specs.Indexed.{tagFor}
+use Rattle.search.specs.Indexed.{tag_for}
 use Rattle.search.proofs.TagLaws.{tag_small}
 use native.Mathlib.Omega.{arith}
 use borrow.Author.Rules.{rules}
@@ -18,7 +18,7 @@ shl-result : tie.Need-overflow-shl-result
 shl-result c = search rules
 
 returns : tie.Need-returns
-unfolding tagFor
+unfolding tag_for
 returns c =
     let t = tag_small (c.mix.result / 262144 % 12) (omega arith) in
     let e = c.mix.ensures in

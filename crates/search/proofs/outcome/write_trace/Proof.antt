@@ -4,7 +4,7 @@ use Prim.Native.Nat.{ℕ, ◌+◌, ◌-◌, ◌≤◌, ◌<◌}
 use mathlib.Core.List.{◌++◌}
 use lib.ListN.{length, drop, length-set}
 use Rattle.levels.specs.Levels.{trail}
-use Rattle.slots.specs.Layout.{columns, parentAt, maskAt}
+use Rattle.slots.specs.Layout.{columns, parent_at, mask_at}
 use Rattle.search.proofs.ReportLaws.{trace-turn, trace-end}
 use native.Mathlib.Omega.{arith}
 use borrow.Author.Rules.{rules}
@@ -14,8 +14,8 @@ use Rattle.search.proofs.outcome.write_trace.Tie as tie
 abbrev invariant-loop : tie.invariant-loop
 invariant-loop work trace₀ k i d m at₀ j₀ trace at j =
     (at ≤ d) × (length trace ≡ length trace₀)
-    × (trail (parentAt (columns k) work) (maskAt (columns k) work) d i ++ drop d trace₀ ≡ trail (parentAt (columns k) work) (maskAt (columns k) work) at j ++ drop at trace)
-    × ((n : ℕ) → ((q : ℕ) → q < n → parentAt (columns k) work q < n) → i < n → j < n)
+    × (trail (parent_at (columns k) work) (mask_at (columns k) work) d i ++ drop d trace₀ ≡ trail (parent_at (columns k) work) (mask_at (columns k) work) at j ++ drop at trace)
+    × ((n : ℕ) → ((q : ℕ) → q < n → parent_at (columns k) work q < n) → i < n → j < n)
 
 abbrev decreases-loop : tie.decreases-loop
 decreases-loop work trace₀ k i d m at₀ j₀ trace at j = at

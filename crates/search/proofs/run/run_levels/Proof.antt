@@ -3,7 +3,7 @@ use mathlib.Core.Path.{◌≡◌, refl, ◌∙◌}
 use Prim.Native.Nat.{◌-◌}
 use lib.ListN.{length}
 use Rattle.tasks.specs.Words.{state_of}
-use Rattle.search.proofs.RunLaws.{Stands, none-indexed, first-stands, stands-level, next-stands, ran-miss, ran-safe, ran-full}
+use Rattle.search.proofs.RunLaws.{Stands, none_indexed, first_stands, stands_level, next-stands, ran_miss, ran_safe, ran_full}
 use native.Mathlib.Omega.{arith}
 use borrow.Author.Rules.{rules}
 use Rattle.search.proofs.run.run_levels.Statement.{statement}
@@ -23,18 +23,18 @@ abbrev pushed : tie.At-loop invariant-loop decreases-loop → tie.After-push inv
 pushed l = l.before.before.before.before.before
 
 push-requires : tie.Need-push-requires invariant-loop decreases-loop
-push-requires c κs = let fresh = c.before.before.before.before.before.requires.1 in (none-indexed fresh, fresh.some)
+push-requires c κs = let fresh = c.before.before.before.before.before.requires.1 in (none_indexed fresh, fresh.some)
 
 loop-holds : tie.Need-loop-init invariant-loop decreases-loop
 unfolding state_of
-loop-holds c = (refl, refl, first-stands c.before.before.before.before.before.before.before.before.before.before.requires.1 refl c.before.before.before.before.push.ensures)
+loop-holds c = (refl, refl, first_stands c.before.before.before.before.before.before.before.before.before.before.requires.1 refl c.before.before.before.before.push.ensures)
 
 hunt-requires : tie.Need-hunt-requires invariant-loop decreases-loop
 hunt-requires c κs =
     let l = c.before in
     let stands = l.loop.invariant.2 in
     let order = stands.standing.explored.order in
-    ((start l).requires.0, omega arith, stands-level (start l).requires.1 stands)
+    ((start l).requires.0, omega arith, stands_level (start l).requires.1 stands)
 
 enum-known-found : tie.Need-enum-known-found invariant-loop decreases-loop
 enum-known-found c = search rules
@@ -52,7 +52,7 @@ returns : tie.Need-returns invariant-loop decreases-loop
 returns c =
     let l = c.before.before.before.before.before in
     let miss = rw c.before.found.given.1 at c.before.before.before.hunt.ensures in
-    record { is = ran-miss (start l).requires.1 l.loop.invariant.2 (pushed l).push.ensures.rest miss }
+    record { is = ran_miss (start l).requires.1 l.loop.invariant.2 (pushed l).push.ensures.rest miss }
 
 enum_told : tie.Need-enum-told invariant-loop decreases-loop
 enum_told c = search rules
@@ -62,7 +62,7 @@ store-level-requires c κs =
     let l = c.before.before.before.before.before.before.before in
     let stands = l.loop.invariant.2 in
     let order = stands.standing.explored.order in
-    ((start l).requires.0, omega arith, stands-level (start l).requires.1 stands, stands.indexed, stands.marked)
+    ((start l).requires.0, omega arith, stands_level (start l).requires.1 stands, stands.indexed, stands.marked)
 
 enum-told-2 : tie.Need-enum-told-2 invariant-loop decreases-loop
 enum-told-2 c = search rules
@@ -81,7 +81,7 @@ returns-2 c =
     let l = c.before.before.before.before.before.before.before.before.before.before.before.before.before.before.before.before in
     let clear = rw c.before.before.before.before.before.before.before.before.before.before.before.before.enum_told.given.1 at c.before.before.before.before.before.before.before.before.before.before.before.before.before.before.hunt.ensures in
     let full = rw c.enum-told2.given.1 at c.before.before.before.before.before.before.before.before.store-level.ensures in
-    record { is = ran-full (start l).requires.1 l.loop.invariant.2 (pushed l).push.ensures.rest clear full }
+    record { is = ran_full (start l).requires.1 l.loop.invariant.2 (pushed l).push.ensures.rest clear full }
 
 enum-known-filled : tie.Need-enum-known-filled invariant-loop decreases-loop
 enum-known-filled c = search rules
@@ -100,7 +100,7 @@ returns-3 c =
     let l = c.before.before.before.before.before.before.before.before.before.before.before.before.before.before.before.before.before.before in
     let clear = rw c.before.before.before.before.before.before.before.before.before.before.before.before.before.before.enum_told.given.1 at c.before.before.before.before.before.before.before.before.before.before.before.before.before.before.before.before.hunt.ensures in
     let done = rw c.before.before.filled.given.1 at c.before.before.before.before.before.before.before.before.before.before.store-level.ensures in
-    record { is = ran-safe (start l).requires.1 l.loop.invariant.2 (pushed l).push.ensures.rest clear done c.if1.true }
+    record { is = ran_safe (start l).requires.1 l.loop.invariant.2 (pushed l).push.ensures.rest clear done c.if1.true }
 
 add-d : tie.Need-overflow-add-d invariant-loop decreases-loop
 add-d c =

@@ -12,20 +12,20 @@ use Rattle.search.proofs.search.search_small.Reads as small
 use Rattle.search.proofs.search.+search_sized.{statement}
 use Rattle.search.proofs.search.+search_sized.Tie.{close}
 
-abbrev μ-search-sized : Measures 2 kinds.ps ℕ
-μ-search-sized κs a = 2 - a.1.1.1.1.0
+abbrev μ_search_sized : Measures 2 kinds.ps ℕ
+μ_search_sized κs a = 2 - a.1.1.1.1.0
 
 -- what a call asks whose measure is t, and what the calls in it ask: that of the same function, a smaller measure
 abbrev at : ℕ → In 2 kinds.ps
-at t = and 2 kinds.ps (is 2 kinds.ps μ-search-sized t) reads.Pre
+at t = and 2 kinds.ps (is 2 kinds.ps μ_search_sized t) reads.Pre
 
 abbrev calls : ℕ → lts.Claims
 calls t =
-    (large.Asked, large.Learnt, medium.Asked, medium.Learnt, and 2 kinds.ps (falls 2 kinds.ps ◌<◌ μ-search-sized t) reads.Pre, reads.Post, small.Asked, small.Learnt)
+    (large.Asked, large.Learnt, medium.Asked, medium.Learnt, and 2 kinds.ps (falls 2 kinds.ps ◌<◌ μ_search_sized t) reads.Pre, reads.Post, small.Asked, small.Learnt)
 
 pub +search-sized-spec : {M : Type 1} → statement M
 +search-sized-spec =
-    close μ-search-sized
+    close μ_search_sized
     λ t. lts.spec (calls t) (at t) reads.Post
     (λ c κs. search rules)
     (λ c. search rules)

@@ -1,13 +1,13 @@
 -- The sheet is refused, or its table, which is valid, is searched. Assumes nothing.
-use Rattle.tasks.specs.Sheet.{sheetOf}
+use Rattle.tasks.specs.Sheet.{sheet_of}
 use Rattle.tasks.specs.declared.sheet.Reading.TheVariants.{Refused}
-use Rattle.tasks.proofs.Listed.{sheet-refusal, read-accepted}
+use Rattle.tasks.proofs.Listed.{sheet_refusal_lem, read_accepted}
 use mathlib.Core.Path.{◌≡◌, sym, ◌∙◌}
 use Prim.Native.Nat.{◌-◌}
-use Rattle.tasks.proofs.Answers.{sheet-is, sheet-reading}
-use Rattle.tasks.proofs.RoundTrip.{read-valid}
-use Rattle.search.specs.Claim.{slotsIn}
-use Rattle.search.proofs.ClaimLaws.{sheet-fault, sheet-read, refused-search}
+use Rattle.tasks.proofs.Answers.{sheet_is, sheet_reading}
+use Rattle.tasks.proofs.RoundTrip.{read_valid}
+use Rattle.search.specs.Claim.{slots_in}
+use Rattle.search.proofs.ClaimLaws.{sheet_fault, sheet_read, refused_search}
 use native.Mathlib.Omega.{arith}
 use borrow.Author.Rules.{rules}
 use Rattle.search.proofs.search.search_sheet.Statement.{statement}
@@ -23,8 +23,8 @@ search-valid-requires : tie.Need-search-valid-requires
 search-valid-requires c κs =
     let read = c.before.before.before.before.before.read-sheet in
     let known = c.before.before.before.before.before.before.before.before.shared-slice-known.given in
-    read-valid c.before.before.before.before.before.before.before.before.before.args.sheet.now (λ i. omega (arith, known i)) read.result.table
-    (sym (sheet-is read.ensures) ∙ read-accepted read.result c.before.before.enum_told.given.1)
+    read_valid c.before.before.before.before.before.before.before.before.before.args.sheet.now (λ i. omega (arith, known i)) read.result.table
+    (sym (sheet_is read.ensures) ∙ read_accepted read.result c.before.before.enum_told.given.1)
 
 enum-known-answer : tie.Need-enum-known-answer
 enum-known-answer c = search rules
@@ -39,15 +39,15 @@ returns : tie.Need-returns
 returns c =
     let a = c.before.before.before.before.before.before.before.before.before.before.before.before.before.before.args in
     let read = c.before.before.before.before.before.before.before.before.before.before.read-sheet in
-    let is = sheet-reading read.ensures ∙ c.before.before.before.before.before.before.before.enum_told.given.1 in
-    rw (sheet-read (slotsIn a.work.now) a.trace.now a.sheet.now is, ← read.ensures.1) c.before.before.before.before.search-valid.ensures
+    let is = sheet_reading read.ensures ∙ c.before.before.before.before.before.before.before.enum_told.given.1 in
+    rw (sheet_read (slots_in a.work.now) a.trace.now a.sheet.now is, ← read.ensures.1) c.before.before.before.before.search-valid.ensures
 
 returns-2 : tie.Need-returns-2
 returns-2 c =
     let a = c.before.before.before.before.before.before.before.before.args in
     let read = c.before.before.before.before.read-sheet in
-    let e : (sheetOf a.sheet.now).answer ≡ Refused _ = sheet-reading read.ensures ∙ c.before.answer.given.1 in
-    refused-search (sheet-fault (slotsIn a.work.now) a.trace.now a.sheet.now e) (sheet-refusal a.sheet.now e).0
+    let e : (sheet_of a.sheet.now).answer ≡ Refused _ = sheet_reading read.ensures ∙ c.before.answer.given.1 in
+    refused_search (sheet_fault (slots_in a.work.now) a.trace.now a.sheet.now e) (sheet_refusal_lem a.sheet.now e).0
 
 pub search-sheet-spec : {M : Type 1} → statement M
 search-sheet-spec =

@@ -1,6 +1,6 @@
 -- Heads that are all 0 index no slot. Assumes nothing.
 use mathlib.Core.Path.{refl}
-use Rattle.search.proofs.ClaimLaws.{lent-fresh, finishing}
+use Rattle.search.proofs.ClaimLaws.{lent_fresh, finishing}
 use native.Mathlib.Omega.{arith}
 use borrow.Author.Rules.{rules}
 use Rattle.search.proofs.search.search_small.Statement.{statement}
@@ -13,7 +13,7 @@ slice-aggregate-search-levels-2 : tie.Need-slice-aggregate-search-levels-2
 slice-aggregate-search-levels-2 c = search rules
 
 search-levels-requires : tie.Need-search-levels-requires
-search-levels-requires c κs = lent-fresh {n = 4096} c.before.before.before.before.before.requires refl (omega arith) refl
+search-levels-requires c κs = lent_fresh {n = 4096} c.before.before.before.before.before.requires refl (omega arith) refl
 
 slice-aggregate-finish : tie.Need-slice-aggregate-finish
 slice-aggregate-finish c = search rules

@@ -1,7 +1,7 @@
 -- The table is refused, or it is valid and is searched. Assumes nothing.
 use Prim.Native.Nat.{◌-◌}
-use Rattle.search.specs.Claim.{slotsIn}
-use Rattle.search.proofs.ClaimLaws.{table-fault, table-valid, refused-search}
+use Rattle.search.specs.Claim.{slots_in}
+use Rattle.search.proofs.ClaimLaws.{table_fault_lem, table_valid, refused_search}
 use borrow.Author.Rules.{rules}
 use Rattle.search.proofs.search.search_table.Statement.{statement}
 use Rattle.search.proofs.search.search_table.Tie as tie
@@ -13,7 +13,7 @@ returns : tie.Need-returns
 returns c =
     let a = c.before.before.before.before.args in
     let fault = c.before.fault.ensures in
-    rw fault (refused-search (table-fault (slotsIn a.work.now) a.trace.now a.t (rw fault at c.if1.true)) (rw fault at c.if1.true))
+    rw fault (refused_search (table_fault_lem (slots_in a.work.now) a.trace.now a.t (rw fault at c.if1.true)) (rw fault at c.if1.true))
 
 search-valid-requires : tie.Need-search-valid-requires
 search-valid-requires c κs = search rules
@@ -27,7 +27,7 @@ same-length-2 c = search rules
 returns-2 : tie.Need-returns-2
 returns-2 c =
     let a = c.before.before.before.before.before.before.before.before.before.before.before.args in
-    rw (table-valid (slotsIn a.work.now) a.trace.now a.t (rw c.before.before.before.before.before.before.before.before.fault.ensures at c.before.before.before.before.before.before.before.if1.false)) c.before.before.before.before.search-valid.ensures
+    rw (table_valid (slots_in a.work.now) a.trace.now a.t (rw c.before.before.before.before.before.before.before.before.fault.ensures at c.before.before.before.before.before.before.before.if1.false)) c.before.before.before.before.search-valid.ensures
 
 pub search-table-spec : {M : Type 1} → statement M
 search-table-spec =

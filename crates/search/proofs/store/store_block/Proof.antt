@@ -2,7 +2,7 @@
 use mathlib.Core.Path.{◌≡◌, refl, ◌∙◌}
 use Prim.Native.Nat.{◌-◌, ◌≤◌}
 use lib.ListN.{length}
-use Rattle.search.proofs.StoreLaws.{BlockTo, block_start, block-ready, block_row, block-full, block-end}
+use Rattle.search.proofs.StoreLaws.{BlockTo, block_start, block_ready, block_row, block_full, block_end}
 use native.Mathlib.Omega.{arith}
 use borrow.Author.Rules.{rules}
 use Rattle.search.proofs.store.store_block.Statement.{statement}
@@ -20,7 +20,7 @@ loop-holds c = let ready = c.before.before.requires.1 in (ready.order, refl, blo
 store-row-requires : tie.Need-store-row-requires invariant-loop decreases-loop
 store-row-requires c κs =
     let r = c.before.before.before.before.before.before.requires in
-    (r.0, block-ready r.1 c.before.before.before.loop.invariant.2 c.before.before.loop-test.true)
+    (r.0, block_ready r.1 c.before.before.before.loop.invariant.2 c.before.before.loop-test.true)
 
 enum-known-row : tie.Need-enum-known-row invariant-loop decreases-loop
 enum-known-row c = search rules
@@ -37,7 +37,7 @@ same-length-2 c = c.before.before.before.before.before.before.store-row.auto.1.1
 returns : tie.Need-returns invariant-loop decreases-loop
 returns c =
     let y = rw c.enum_told.given.1 at c.before.before.before.before.before.before.store-row.ensures in
-    block-full c.before.before.before.before.before.before.before.before.before.before.before.before.before.requires.1 c.before.before.before.before.before.before.before.before.before.before.loop.invariant.2 c.before.before.before.before.before.before.before.before.before.loop-test.true y
+    block_full c.before.before.before.before.before.before.before.before.before.before.before.before.before.requires.1 c.before.before.before.before.before.before.before.before.before.before.loop.invariant.2 c.before.before.before.before.before.before.before.before.before.loop-test.true y
 
 add-i : tie.Need-overflow-add-i invariant-loop decreases-loop
 add-i c = search rules
@@ -61,7 +61,7 @@ same-length-4 : tie.Need-same-length-4 invariant-loop decreases-loop
 same-length-4 c = c.before.loop.invariant.1
 
 returns-2 : tie.Need-returns-2 invariant-loop decreases-loop
-returns-2 c = block-end c.before.before.before.before.requires.1 c.before.loop.invariant.2 c.loop-test.false
+returns-2 c = block_end c.before.before.before.before.requires.1 c.before.loop.invariant.2 c.loop-test.false
 
 pub store-block-spec : {M : Type 1} → statement M
 store-block-spec =

@@ -2,7 +2,7 @@
 use mathlib.Core.Path.{◌≡◌, refl, ◌∙◌}
 use Prim.Native.Nat.{◌-◌, ◌≤◌}
 use lib.ListN.{length}
-use Rattle.search.proofs.StoreLaws.{LevelTo, level-start, level-low, level-ready, level-block, level-full, level-end}
+use Rattle.search.proofs.StoreLaws.{LevelTo, level_start, level_low, level_ready, level_block, level_full, level_end}
 use native.Mathlib.Omega.{arith}
 use borrow.Author.Rules.{rules}
 use Rattle.search.proofs.store.store_level.Statement.{statement}
@@ -18,16 +18,16 @@ decreases-loop t ticker work₀ heads₀ ends₀ k lo hi n₀ i₀ work heads en
 loop-holds : tie.Need-loop-init invariant-loop decreases-loop
 loop-holds c =
     let r = c.before.before.before.requires in
-    (omega arith, refl, refl, level-start r.1 r.3 r.4)
+    (omega arith, refl, refl, level_start r.1 r.3 r.4)
 
 block-upto-requires : tie.Need-block-upto-requires invariant-loop decreases-loop
-block-upto-requires c κs = (c.loop-test.true, level-low c.before.loop.invariant.3)
+block-upto-requires c κs = (c.loop-test.true, level_low c.before.loop.invariant.3)
 
 store-block-requires : tie.Need-store-block-requires invariant-loop decreases-loop
 store-block-requires c κs =
     let r = c.before.before.before.before.before.before.before.before.requires in
     let to = c.before.before.block-upto.ensures in
-    (r.0, level-ready c.before.before.before.before.loop.invariant.3 to.0 to.1 to.2 r.2)
+    (r.0, level_ready c.before.before.before.before.loop.invariant.3 to.0 to.1 to.2 r.2)
 
 enum-known-block : tie.Need-enum-known-block invariant-loop decreases-loop
 enum-known-block c = search rules
@@ -48,7 +48,7 @@ returns : tie.Need-returns invariant-loop decreases-loop
 returns c =
     let y = rw c.enum_told.given.1 at c.before.before.before.before.before.before.store-block.ensures in
     let to = c.before.before.before.before.before.before.before.before.before.block-upto.ensures in
-    level-full c.before.before.before.before.before.before.before.before.before.before.before.loop.invariant.3 to.0 to.1 to.2 y
+    level_full c.before.before.before.before.before.before.before.before.before.before.before.loop.invariant.3 to.0 to.1 to.2 y
 
 sub-end-slot : tie.Need-overflow-sub-end-slot invariant-loop decreases-loop
 sub-end-slot c = let to = c.before.before.before.before.before.before.before.before.before.before.before.block-upto.ensures in omega (arith, to.0)
@@ -58,7 +58,7 @@ end-slot-requires c κs =
     let y = rw c.before.before.block.given.1 at c.before.before.before.before.before.before.before.before.store-block.ensures in
     let x = c.before.before.before.before.before.before.before.before.before.before.before.before.before.loop.invariant.3 in
     let to = c.before.before.before.before.before.before.before.before.before.before.before.block-upto.ensures in
-    let low = level-low x in
+    let low = level_low x in
     let room = y.indexed.room in
     let few = y.indexed.few in
     (omega (arith, to.0, to.1, x.marked.len), omega arith)
@@ -75,7 +75,7 @@ loop-again c =
       to.1,
       c.before.before.before.before.before.before.before.before.before.before.before.store-block.auto.1.1.1.0 ∙ l.invariant.1,
       end.auto.0 ∙ l.invariant.2,
-      rw end.ensures (level-block l.invariant.3 to.0 to.1 to.2 y),
+      rw end.ensures (level_block l.invariant.3 to.0 to.1 to.2 y),
     )
 
 same-length-4 : tie.Need-same-length-4 invariant-loop decreases-loop
@@ -88,7 +88,7 @@ same-length-6 : tie.Need-same-length-6 invariant-loop decreases-loop
 same-length-6 c = c.before.loop.invariant.2
 
 returns-2 : tie.Need-returns-2 invariant-loop decreases-loop
-returns-2 c = level-end c.before.loop.invariant.3 c.loop-test.false
+returns-2 c = level_end c.before.loop.invariant.3 c.loop-test.false
 
 pub store-level-spec : {M : Type 1} → statement M
 store-level-spec =

@@ -5,13 +5,13 @@ use mathlib.Core.Logic.{⊎_elim}
 use lib.ListN.{length}
 use Rattle.tasks.specs.State.{improper}
 use Rattle.tasks.specs.Tick.{after}
-use Rattle.tasks.specs.Masks.{freeMask}
-use Rattle.tasks.specs.Ticker.{tickerOf}
+use Rattle.tasks.specs.Masks.{free_mask}
+use Rattle.tasks.specs.Ticker.{ticker_of}
 use Rattle.tasks.specs.declared.table.Table.{Table}
 use Rattle.tasks.proofs.InWords.{WordList}
 use Rattle.tasks.proofs.Free.{ticks, frees}
 use Rattle.search.specs.Keeping.{RowReady}
-use Rattle.search.proofs.StoreLaws.{RowBy, row-start, row-known, row-added, row-crowded, row-falls, row-end}
+use Rattle.search.proofs.StoreLaws.{RowBy, row_start, row_known, row_added, row_crowded, row_falls, row_end}
 use native.Mathlib.Omega.{arith}
 use borrow.Author.Rules.{rules}
 use Rattle.search.proofs.store.store_row.Statement.{statement}
@@ -20,7 +20,7 @@ use Rattle.search.proofs.store.store_row.Tie as tie
 abbrev invariant-loop : tie.invariant-loop
 invariant-loop ticker work₀ heads₀ k from i free state n₀ m₀ work heads n m =
     (from ≤ n) × (length heads ≡ length heads₀)
-    × ((t : Table) → ticker ≡ tickerOf t → RowReady t k work₀ heads₀ from i → RowBy t ticker state k work₀ work heads from n i free m)
+    × ((t : Table) → ticker ≡ ticker_of t → RowReady t k work₀ heads₀ from i → RowBy t ticker state k work₀ work heads from n i free m)
 
 abbrev decreases-loop : tie.decreases-loop
 decreases-loop ticker work₀ heads₀ k from i free state n₀ m₀ work heads n m = 256 - m
@@ -59,9 +59,9 @@ loop-holds c =
       omega arith,
       refl,
       λ t e ready. record {
-        is = frees t _ e c.before.free.ensures ∙ ap (freeMask t) at;
+        is = frees t _ e c.before.free.ensures ∙ ap (free_mask t) at;
         ticks = λ mask. ticks t _ e c.prepare.ensures ready.valid (ap (improper t) at ∙ ready.proper) (word-list c.before.before) mask ∙ ap (λ s. after t s mask) at;
-        row = row-start ready refl (omega (arith, c.before.free.type-inv));
+        row = row_start ready refl (omega (arith, c.before.free.type-inv));
       },
     )
 
@@ -95,7 +95,7 @@ returns c =
     let l = c.before.before.before.before.before.before.before.before.before.before in
     let x = own l in
     let y = rw c.enum-told3.given.1 at (rw (x.ticks _) at c.before.before.before.before.before.before.try-mask.ensures) in
-    row-crowded (start l).requires.1 x.row x.is c.before.before.before.before.before.before.before.before.before.loop-test.true y
+    row_crowded (start l).requires.1 x.row x.is c.before.before.before.before.before.before.before.before.before.loop-test.true y
 
 follow-requires : tie.Need-follow-requires invariant-loop decreases-loop
 follow-requires c κs = search rules
@@ -105,7 +105,7 @@ loop-less c =
     let l = c.before.before.before.before.before.before.before.before.before.before in
     let x = own l in
     let m = x.row.most in
-    rw c.follow.ensures (omega (arith, row-falls (start l).requires.1 x.row x.is c.before.before.before.before.before.before.before.before.before.loop-test.true))
+    rw c.follow.ensures (omega (arith, row_falls (start l).requires.1 x.row x.is c.before.before.before.before.before.before.before.before.before.loop-test.true))
 
 loop-again : tie.Need-loop-preserved invariant-loop decreases-loop
 loop-again c =
@@ -119,7 +119,7 @@ loop-again c =
       λ t e ready.
           let x = l.loop.invariant.2 t e ready in
           let y = rw w.1.given.1 at (rw (x.ticks _) at call.ensures) in
-          record { is = x.is; ticks = x.ticks; row = rw (c.follow.ensures, w.2) (row-known ready x.row x.is b y) },
+          record { is = x.is; ticks = x.ticks; row = rw (c.follow.ensures, w.2) (row_known ready x.row x.is b y) },
     ))
     (λ w. (
       omega arith,
@@ -127,7 +127,7 @@ loop-again c =
       λ t e ready.
           let x = l.loop.invariant.2 t e ready in
           let y = rw w.1.given.1 at (rw (x.ticks _) at call.ensures) in
-          record { is = x.is; ticks = x.ticks; row = rw (c.follow.ensures, w.2) (row-added ready x.row x.is b y) },
+          record { is = x.is; ticks = x.ticks; row = rw (c.follow.ensures, w.2) (row_added ready x.row x.is b y) },
     ))
     c.before.match.branch
 
@@ -138,7 +138,7 @@ same-length-4 : tie.Need-same-length-4 invariant-loop decreases-loop
 same-length-4 c = c.before.loop.invariant.1
 
 returns-2 : tie.Need-returns-2 invariant-loop decreases-loop
-returns-2 c = let l = c.before in row-end (start l).requires.1 (own l).row (own l).is c.loop-test.false
+returns-2 c = let l = c.before in row_end (start l).requires.1 (own l).row (own l).is c.loop-test.false
 
 pub store-row-spec : {M : Type 1} → statement M
 store-row-spec =

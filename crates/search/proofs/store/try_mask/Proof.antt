@@ -22,7 +22,7 @@ returns c =
     record {
       held = rw c.before.before.before.before.after.ensures at (rw c.if1.true at c.before.holds.ensures);
       same = refl;
-      same-heads = refl;
+      same_heads = refl;
     }
 
 same-length-3 : tie.Need-same-length-3

@@ -3,9 +3,9 @@ use Prim.Native.Nat.{suc, ◌+◌, ◌-◌, ◌≤◌}
 use mathlib.Core.Path.{◌≡◌}
 use native.Mathlib.Omega.{arith}
 use native.Mathlib.Nat.{add-zero}
-use Rattle.tasks.proofs.Stores.{Storing, storing-start, storing-end}
+use Rattle.tasks.proofs.Stores.{Storing, storing_start, storing_end}
 use Rattle.service.specs.Bytes.{low_first}
-use Rattle.service.proofs.ByteLaws.{low-length, low_turn}
+use Rattle.service.proofs.ByteLaws.{low_length, low_turn}
 use borrow.Author.Rules.{rules}
 use Rattle.service.proofs.bytes.put_number.Statement.{statement}
 use Rattle.service.proofs.bytes.put_number.Tie as tie
@@ -17,7 +17,7 @@ abbrev decreases-loop : tie.decreases-loop
 decreases-loop out₀ at n rest₀ k₀ out rest k = 8 - k
 
 loop-holds : tie.Need-loop-init invariant-loop decreases-loop
-loop-holds c = (omega arith, rw (add-zero _) (storing-start _ _ _ (omega (arith, c.requires, low-length 8 c.args.n))))
+loop-holds c = (omega arith, rw (add-zero _) (storing_start _ _ _ (omega (arith, c.requires, low_length 8 c.args.n))))
 
 cast-out : tie.Need-overflow-cast-out invariant-loop decreases-loop
 cast-out c = search rules
@@ -48,7 +48,7 @@ unfolding low_first
 returns c =
     let l = c.before.loop in
     let none : 8 - l.k ≡ 0 = omega arith in
-    storing-end (rw none at l.invariant.1)
+    storing_end (rw none at l.invariant.1)
 
 pub put-number-spec : {M : Type 1} → statement M
 put-number-spec =

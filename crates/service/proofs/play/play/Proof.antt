@@ -2,7 +2,7 @@
 use Prim.Native.Nat.{◌-◌, ◌≤◌}
 use mathlib.Core.Path.{sym, ◌∙◌}
 use lib.ListN.{length}
-use Rattle.service.proofs.Playing.{Playing, playing-start, playing-room, playing-kept, playing-refused, playing-missed, playing-next}
+use Rattle.service.proofs.Playing.{Playing, playing_start, playing-room, playing_kept, playing-refused, playing-missed, playing_next}
 use native.Mathlib.Omega.{arith}
 use borrow.Author.Rules.{rules}
 use Rattle.service.proofs.play.play.Statement.{statement}
@@ -18,7 +18,7 @@ start-requires : tie.Need-start-requires invariant-loop decreases-loop
 start-requires c κs = search rules
 
 loop-holds : tie.Need-loop-init invariant-loop decreases-loop
-loop-holds c = (omega arith, rw c.start.ensures (playing-start _ _))
+loop-holds c = (omega arith, rw c.start.ensures (playing_start _ _))
 
 shared-slice-read-mask : tie.Need-shared-slice-read-mask invariant-loop decreases-loop
 shared-slice-read-mask c = search rules
@@ -78,7 +78,7 @@ loop-less c = search rules
 loop-again : tie.Need-loop-preserved invariant-loop decreases-loop
 loop-again c = (
   omega arith,
-  playing-next _ _ c.before.before.before.before.before.before.before.before.before.before.before.before.before.before.before.requires c.before.before.before.before.before.before.before.before.before.before.before.before.loop.invariant.1 c.before.before.before.before.before.before.before.before.before.before.before.loop-test.true (sym c.before.before.before.before.before.before.before.illegal.ensures ∙ c.before.before.before.before.before.before.if1.false)
+  playing_next _ _ c.before.before.before.before.before.before.before.before.before.before.before.before.before.before.before.requires c.before.before.before.before.before.before.before.before.before.before.before.before.loop.invariant.1 c.before.before.before.before.before.before.before.before.before.before.before.loop-test.true (sym c.before.before.before.before.before.before.before.illegal.ensures ∙ c.before.before.before.before.before.before.if1.false)
       c.before.before.before.before.before.before.before.before.before.named.ensures c.before.before.before.before.before.before.before.before.raised.ensures c.before.before.before.before.before.release.ensures c.before.before.before.before.choose.ensures c.before.before.before.raised2.ensures c.before.before.run.ensures
       (sym c.before.missed.ensures ∙ c.if2.false),
 )
@@ -88,7 +88,7 @@ account-of-requires-3 c κs = search rules
 
 returns-3 : tie.Need-returns-3 invariant-loop decreases-loop
 returns-3 c =
-    c.account-of3.ensures ∙ playing-kept _ _ c.before.before.before.before.before.requires c.before.before.loop.invariant.1 c.before.loop-test.false
+    c.account-of3.ensures ∙ playing_kept _ _ c.before.before.before.before.before.requires c.before.before.loop.invariant.1 c.before.loop-test.false
 
 pub play-spec : {M : Type 1} → statement M
 play-spec =

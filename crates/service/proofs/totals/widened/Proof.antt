@@ -4,7 +4,7 @@ use mathlib.Core.Path.{◌≡◌, refl, sym, ◌∙◌}
 use lib.ListN.{length, get_or}
 use lib.Seq.{ext_get_or}
 use native.Mathlib.Omega.{arith}
-use Rattle.lists.proofs.Fill.{Filled, filled-start, filled-store}
+use Rattle.lists.proofs.Fill.{Filled, filled_start, filled_store}
 use borrow.Author.Rules.{rules}
 use Rattle.service.proofs.totals.widened.Statement.{statement}
 use Rattle.service.proofs.totals.widened.Tie as tie
@@ -16,7 +16,7 @@ abbrev decreases-loop : tie.decreases-loop
 decreases-loop c wide₀ i₀ wide i = 8 - i
 
 loop-holds : tie.Need-loop-init invariant-loop decreases-loop
-loop-holds c = (omega arith, search rules, filled-start refl)
+loop-holds c = (omega arith, search rules, filled_start refl)
 
 array-read-wide : tie.Need-array-read-wide invariant-loop decreases-loop
 array-read-wide c = search rules
@@ -37,7 +37,7 @@ loop-less : tie.Need-loop-smaller invariant-loop decreases-loop
 loop-less c = search rules
 
 loop-again : tie.Need-loop-preserved invariant-loop decreases-loop
-loop-again c = let l = c.before.loop in (omega arith, l.invariant.1, filled-store l.invariant.2 (omega arith) refl)
+loop-again c = let l = c.before.loop in (omega arith, l.invariant.1, filled_store l.invariant.2 (omega arith) refl)
 
 returns : tie.Need-returns invariant-loop decreases-loop
 returns c =

@@ -1,7 +1,7 @@
 use mathlib.Core.Path.{◌∙◌}
-use Rattle.tasks.proofs.Answers.{sheet-reading}
-use Rattle.tasks.proofs.Listed.{sheet-refusal}
-use Rattle.session_bytes.proofs.CallLaws.{sheet-refused, space-short, sheet-called}
+use Rattle.tasks.proofs.Answers.{sheet_reading}
+use Rattle.tasks.proofs.Listed.{sheet_refusal_lem}
+use Rattle.session_bytes.proofs.CallLaws.{sheet_refused, space_short, sheet-called}
 use borrow.Author.Rules.{rules}
 use Rattle.session_bytes.proofs.calls.call_sheet.Statement.{statement}
 use Rattle.session_bytes.proofs.calls.call_sheet.Tie as tie
@@ -19,7 +19,7 @@ returns : tie.Need-returns
 returns c =
     let h = c.before.before.before.before in
     let a = h.before.before.before.args in
-    space-short a.sheet.now a.space.now a.call (sheet-reading h.read-sheet.ensures ∙ c.before.enum_told.given.1) c.if1.true
+    space_short a.sheet.now a.space.now a.call (sheet_reading h.read-sheet.ensures ∙ c.before.enum_told.given.1) c.if1.true
 
 call-table-requires : tie.Need-call-table-requires
 call-table-requires c κs = search rules
@@ -28,8 +28,8 @@ returns-2 : tie.Need-returns-2
 returns-2 c =
     let h = c.before.before.before.before in
     let a = h.before.before.before.args in
-    let e = sheet-reading h.read-sheet.ensures ∙ c.before.answer.given.1 in
-    sheet-refused a.sheet.now a.space.now a.call (sheet-refusal a.sheet.now e).0 e
+    let e = sheet_reading h.read-sheet.ensures ∙ c.before.answer.given.1 in
+    sheet_refused a.sheet.now a.space.now a.call (sheet_refusal_lem a.sheet.now e).0 e
 
 same_length : tie.Need-same-length
 same_length c = search rules
@@ -38,7 +38,7 @@ returns-3 : tie.Need-returns-3
 returns-3 c =
     let h = c.before.before.before.before.before.before.before.before in
     let a = h.before.before.before.args in
-    sheet-called a.sheet.now a.space.now a.call (sheet-reading h.read-sheet.ensures ∙ c.before.before.before.before.before.enum_told.given.1)
+    sheet-called a.sheet.now a.space.now a.call (sheet_reading h.read-sheet.ensures ∙ c.before.before.before.before.before.enum_told.given.1)
     c.before.before.call-table.result c.before.before.before.before.if1.false h.read-sheet.ensures.1 c.before.before.call-table.ensures
 
 pub call-sheet-spec : {M : Type 1} → statement M

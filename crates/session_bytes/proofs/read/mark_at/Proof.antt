@@ -1,7 +1,7 @@
 use mathlib.Core.Path.{sym, ap, ◌∙◌}
 use mathlib.Core.Bool.{true, false}
-use Rattle.lists.proofs.Picks.{pick-in, pick_no}
-use Rattle.session_bytes.specs.Space.{markFrom}
+use Rattle.lists.proofs.Picks.{pick_in, pick_no}
+use Rattle.session_bytes.specs.Space.{mark_from}
 use borrow.Author.Rules.{rules}
 use Rattle.session_bytes.proofs.read.mark_at.Statement.{statement}
 use Rattle.session_bytes.proofs.read.mark_at.Tie as tie
@@ -19,15 +19,15 @@ state-at-requires : tie.Need-state-at-requires
 state-at-requires c κs = search rules
 
 returns : tie.Need-returns
-unfolding markFrom
+unfolding mark_from
 returns c =
-    pick-in _ (sym c.before.before.has-bit.ensures ∙ c.before.if1.true) (ap (λ s. record { set = true; state = s }) c.state-at.ensures)
+    pick_in _ (sym c.before.before.has-bit.ensures ∙ c.before.if1.true) (ap (λ s. record { set = true; state = s }) c.state-at.ensures)
 
 start-requires : tie.Need-start-requires
 start-requires c κs = search rules
 
 returns-2 : tie.Need-returns-2
-unfolding markFrom
+unfolding mark_from
 returns-2 c =
     pick_no _ (sym c.before.before.has-bit.ensures ∙ c.before.if1.false) (ap (λ s. record { set = false; state = s }) c.start.ensures)
 

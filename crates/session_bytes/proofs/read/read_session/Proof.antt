@@ -1,16 +1,16 @@
 use Prim.Native.Nat.{◌-◌, ◌≤◌}
 use mathlib.Core.Path.{ap, ap₂}
 use lib.ListN.{length}
-use Rattle.lists.proofs.Fill.{Filled, filled-start, filled-store, filled-end}
+use Rattle.lists.proofs.Fill.{Filled, filled_start, filled_store, filled_end}
 use Rattle.session.specs.Session.{empty}
-use Rattle.session_bytes.specs.Space.{markFrom, sessionFrom}
+use Rattle.session_bytes.specs.Space.{mark_from, session_from}
 use native.Mathlib.Omega.{arith}
 use borrow.Author.Rules.{rules}
 use Rattle.session_bytes.proofs.read.read_session.Statement.{statement}
 use Rattle.session_bytes.proofs.read.read_session.Tie as tie
 
 abbrev invariant-loop : tie.invariant-loop
-invariant-loop space present marks₀ i₀ marks i = (i ≤ 8) × Filled empty (markFrom space) marks i
+invariant-loop space present marks₀ i₀ marks i = (i ≤ 8) × Filled empty (mark_from space) marks i
 
 abbrev decreases-loop : tie.decreases-loop
 decreases-loop space present marks₀ i₀ marks i = 8 - i
@@ -22,7 +22,7 @@ fresh-requires : tie.Need-fresh-requires invariant-loop decreases-loop
 fresh-requires c κs = search rules
 
 loop-holds : tie.Need-loop-init invariant-loop decreases-loop
-loop-holds c = (omega arith, filled-start (ap (λ x. length x.marks) c.before.fresh.ensures))
+loop-holds c = (omega arith, filled_start (ap (λ x. length x.marks) c.before.fresh.ensures))
 
 mark-at-requires : tie.Need-mark-at-requires invariant-loop decreases-loop
 mark-at-requires c κs = search rules
@@ -42,13 +42,13 @@ loop-less c = search rules
 loop-again : tie.Need-loop-preserved invariant-loop decreases-loop
 loop-again c =
     let h = c.before.before.loop in
-    (omega arith, filled-store h.invariant.1 (omega arith) c.mark-at.ensures)
+    (omega arith, filled_store h.invariant.1 (omega arith) c.mark-at.ensures)
 
 returns : tie.Need-returns invariant-loop decreases-loop
-unfolding sessionFrom
+unfolding session_from
 returns c =
     let h = c.before.loop in
-    ap₂ (λ s marks. record { present = s; marks = marks }) c.before.before.before.before.state-at.ensures (filled-end h.invariant.1 (omega arith))
+    ap₂ (λ s marks. record { present = s; marks = marks }) c.before.before.before.before.state-at.ensures (filled_end h.invariant.1 (omega arith))
 
 pub read-session-spec : {M : Type 1} → statement M
 read-session-spec =

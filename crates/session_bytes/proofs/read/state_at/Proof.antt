@@ -1,5 +1,5 @@
 use mathlib.Core.Path.{◌∙◌}
-use Rattle.session_bytes.proofs.SpaceLaws.{state-after}
+use Rattle.session_bytes.proofs.SpaceLaws.{state_after}
 use borrow.Author.Rules.{rules}
 use Rattle.session_bytes.proofs.read.state_at.Statement.{statement}
 use Rattle.session_bytes.proofs.read.state_at.Tie as tie
@@ -22,7 +22,7 @@ of-words-requires c κs = search rules
 returns : tie.Need-returns
 returns c =
     let a = c.before.before.before.before.args in
-    c.of_words.ensures ∙ c.before.words-in.ensures ∙ state-after a.space.now a.j
+    c.of_words.ensures ∙ c.before.words-in.ensures ∙ state_after a.space.now a.j
 
 pub state-at-spec : {M : Type 1} → statement M
 state-at-spec =

@@ -5,9 +5,9 @@ use lib.ListN.{length}
 use lib.Pow.{pow_mono}
 use native.Mathlib.Nat.{pow-suc}
 use Rattle.lists.specs.Lists.{pick, bits_of}
-use Rattle.lists.proofs.Turns.{bits_none, bits-turn, bits-less, bits-end, pick-most}
-use Rattle.session.specs.Session.{empty, markIn}
-use Rattle.session.proofs.MarkLaws.{length-mapped, any-default}
+use Rattle.lists.proofs.Turns.{bits_none, bits_turn, bits_less, bits_end, pick_most}
+use Rattle.session.specs.Session.{empty, mark_in}
+use Rattle.session.proofs.MarkLaws.{length_mapped, any_default}
 use Rattle.session_bytes.specs.Space.{flags}
 use native.Mathlib.Omega.{arith}
 use borrow.Author.Rules.{rules}
@@ -15,13 +15,13 @@ use Rattle.session_bytes.proofs.write.flags.Statement.{statement}
 use Rattle.session_bytes.proofs.write.flags.Tie as tie
 
 abbrev invariant-loop : tie.invariant-loop
-invariant-loop x sum₀ weight₀ i₀ sum weight i = (i ≤ 8) × (weight ≡ 2 ^ i) × (sum ≡ bits_of i (λ k. (markIn x k).set))
+invariant-loop x sum₀ weight₀ i₀ sum weight i = (i ≤ 8) × (weight ≡ 2 ^ i) × (sum ≡ bits_of i (λ k. (mark_in x k).set))
 
 abbrev decreases-loop : tie.decreases-loop
 decreases-loop x sum₀ weight₀ i₀ sum weight i = 8 - i
 
 loop-holds : tie.Need-loop-init invariant-loop decreases-loop
-loop-holds c = (omega arith, refl, bits_none (λ k. (markIn c.args.t1 k).set))
+loop-holds c = (omega arith, refl, bits_none (λ k. (mark_in c.args.t1 k).set))
 
 mul-mark : tie.Need-overflow-mul-mark invariant-loop decreases-loop
 mul-mark c = search rules
@@ -35,19 +35,19 @@ weighed-requires c κs = search rules
 -- what a turn adds
 added :
     (c : tie.After-weighed invariant-loop decreases-loop)
-    → c.weighed.result ≡ pick (markIn c.before.before.before.before.args.t1 c.before.before.before.loop.i).set c.before.before.before.loop.weight 0
+    → c.weighed.result ≡ pick (mark_in c.before.before.before.before.args.t1 c.before.before.before.loop.i).set c.before.before.before.loop.weight 0
 added c =
     let h = c.before.before.before in
     let a = h.before.args in
-    let len : length a.t1.marks ≡ 8 = search (rules, length-mapped) in
-    c.weighed.ensures ∙ ap (λ mark. pick mark.set h.loop.weight 0) (any-default _ empty a.t1.marks h.loop.i (omega arith))
+    let len : length a.t1.marks ≡ 8 = search (rules, length_mapped) in
+    c.weighed.ensures ∙ ap (λ mark. pick mark.set h.loop.weight 0) (any_default _ empty a.t1.marks h.loop.i (omega arith))
 
 add-sum : tie.Need-overflow-add-sum invariant-loop decreases-loop
 add-sum c =
     let h = c.before.before.before.loop in
-    let p : ℕ → Bool = λ k. (markIn c.before.before.before.before.args.t1 k).set in
+    let p : ℕ → Bool = λ k. (mark_in c.before.before.before.before.args.t1 k).set in
     omega
-    (arith, added c, h.invariant.1, h.invariant.2, bits-less p h.i, pow_mono {i = h.i} {j = 8} h.invariant.0, pick-most (p h.i) h.weight)
+    (arith, added c, h.invariant.1, h.invariant.2, bits_less p h.i, pow_mono {i = h.i} {j = 8} h.invariant.0, pick_most (p h.i) h.weight)
 
 mul-weight : tie.Need-overflow-mul-weight invariant-loop decreases-loop
 mul-weight c =
@@ -64,20 +64,20 @@ loop-again : tie.Need-loop-preserved invariant-loop decreases-loop
 loop-again c =
     let h = c.before.before.before.loop in
     let e : 2 ^ (h.i + 1) ≡ 2 ^ suc h.i = ap (λ k. 2 ^ k) (omega arith) in
-    let turn = bits-turn (λ k. (markIn c.before.before.before.before.args.t1 k).set) h.i h.invariant.2 h.invariant.1 in
+    let turn = bits_turn (λ k. (mark_in c.before.before.before.before.args.t1 k).set) h.i h.invariant.2 h.invariant.1 in
     (omega arith, omega (arith, e, h.invariant.1, pow-suc 2 h.i), rw (added c) turn)
 
 cast-result : tie.Need-overflow-cast-result invariant-loop decreases-loop
 cast-result c =
     let h = c.before.loop in
     omega
-    (arith, h.invariant.2, bits-less (λ k. (markIn c.before.before.args.t1 k).set) h.i, pow_mono {i = h.i} {j = 8} h.invariant.0)
+    (arith, h.invariant.2, bits_less (λ k. (mark_in c.before.before.args.t1 k).set) h.i, pow_mono {i = h.i} {j = 8} h.invariant.0)
 
 returns : tie.Need-returns invariant-loop decreases-loop
 unfolding flags
 returns c =
     let h = c.before.loop in
-    bits-end (λ k. (markIn c.before.before.args.t1 k).set) h.invariant.2 h.invariant.0 c.loop-test.false
+    bits_end (λ k. (mark_in c.before.before.args.t1 k).set) h.invariant.2 h.invariant.0 c.loop-test.false
 
 pub flags-spec : {M : Type 1} → statement M
 flags-spec =

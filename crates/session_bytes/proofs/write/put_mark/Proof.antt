@@ -2,11 +2,11 @@ use Prim.Native.Nat.{◌+◌}
 use mathlib.Core.Path.{◌≡◌, sym, ap, refl, ◌∙◌}
 use lib.ListN.{length}
 use lib.Seq.{sets}
-use Rattle.lists.proofs.Picks.{pick-in, pick_no}
-use Rattle.states.specs.Bytes.{stateBytes}
+use Rattle.lists.proofs.Picks.{pick_in, pick_no}
+use Rattle.states.specs.Bytes.{state_bytes}
 use Rattle.session.specs.Session.{empty}
-use Rattle.session.proofs.MarkLaws.{length-mapped, any-default}
-use Rattle.session_bytes.specs.Space.{place, markWritten}
+use Rattle.session.proofs.MarkLaws.{length_mapped, any_default}
+use Rattle.session_bytes.specs.Space.{place, mark_written}
 use native.Mathlib.Omega.{arith}
 use borrow.Author.Rules.{rules}
 use Rattle.session_bytes.proofs.write.put_mark.Statement.{statement}
@@ -28,22 +28,22 @@ same_length : tie.Need-same-length
 same_length c = search rules
 
 returns : tie.Need-returns
-unfolding markWritten
+unfolding mark_written
 returns c =
     let h = c.before.before.before.before.before.before.before.before in
     let a = h.args in
-    let len : length a.t2.marks ≡ 8 = search (rules, length-mapped) in
-    let m = any-default _ empty a.t2.marks a.i (omega (arith, h.requires)) in
-    pick-in _ (ap (λ mark. mark.set) (sym m) ∙ c.before.before.before.before.if1.true)
-    (c.before.before.put-state.ensures ∙ ap (λ mark. sets a.space.now (place (a.i + 1)) (stateBytes mark.state)) m)
+    let len : length a.t2.marks ≡ 8 = search (rules, length_mapped) in
+    let m = any_default _ empty a.t2.marks a.i (omega (arith, h.requires)) in
+    pick_in _ (ap (λ mark. mark.set) (sym m) ∙ c.before.before.before.before.if1.true)
+    (c.before.before.put-state.ensures ∙ ap (λ mark. sets a.space.now (place (a.i + 1)) (state_bytes mark.state)) m)
 
 returns-2 : tie.Need-returns-2
-unfolding markWritten
+unfolding mark_written
 returns-2 c =
     let h = c.before.before.before.before in
     let a = h.args in
-    let len : length a.t2.marks ≡ 8 = search (rules, length-mapped) in
-    let m = any-default _ empty a.t2.marks a.i (omega (arith, h.requires)) in
+    let len : length a.t2.marks ≡ 8 = search (rules, length_mapped) in
+    let m = any_default _ empty a.t2.marks a.i (omega (arith, h.requires)) in
     pick_no _ (ap (λ mark. mark.set) (sym m) ∙ c.if1.false) refl
 
 pub put-mark-spec : {M : Type 1} → statement M

@@ -1,22 +1,22 @@
 use Prim.Native.Nat.{◌-◌, ◌≤◌}
 use mathlib.Core.Path.{◌≡◌, refl, ◌∙◌}
 use lib.ListN.{length}
-use Rattle.lists.proofs.Turns.{at-end}
-use Rattle.session_bytes.specs.Space.{marksWritten}
-use Rattle.session_bytes.proofs.SpaceLaws.{mark-length, marks-none, marks-turn}
+use Rattle.lists.proofs.Turns.{at_end}
+use Rattle.session_bytes.specs.Space.{marks_written}
+use Rattle.session_bytes.proofs.SpaceLaws.{mark_length, marks_none, marks_turn}
 use native.Mathlib.Omega.{arith}
 use borrow.Author.Rules.{rules}
 use Rattle.session_bytes.proofs.write.put_marks.Statement.{statement}
 use Rattle.session_bytes.proofs.write.put_marks.Tie as tie
 
 abbrev invariant-loop : tie.invariant-loop
-invariant-loop space₀ x i₀ space i = (i ≤ 8) × (length space ≡ length space₀) × (space ≡ marksWritten x i space₀)
+invariant-loop space₀ x i₀ space i = (i ≤ 8) × (length space ≡ length space₀) × (space ≡ marks_written x i space₀)
 
 abbrev decreases-loop : tie.decreases-loop
 decreases-loop space₀ x i₀ space i = 8 - i
 
 loop-holds : tie.Need-loop-init invariant-loop decreases-loop
-loop-holds c = (omega arith, refl, marks-none c.before.args.x c.before.args.space.now)
+loop-holds c = (omega arith, refl, marks_none c.before.args.x c.before.args.space.now)
 
 put-mark-requires : tie.Need-put-mark-requires invariant-loop decreases-loop
 put-mark-requires c κs = search rules
@@ -32,7 +32,7 @@ loop-again c =
     let h = c.before.before.before.before.before in
     let a = h.before.before.args in
     let e = c.before.before.put-mark.ensures in
-    (omega arith, rw e (mark-length a.x h.loop.i _ ∙ h.loop.invariant.1), e ∙ marks-turn a.x h.loop.i a.space.now h.loop.invariant.2)
+    (omega arith, rw e (mark_length a.x h.loop.i _ ∙ h.loop.invariant.1), e ∙ marks_turn a.x h.loop.i a.space.now h.loop.invariant.2)
 
 same_length : tie.Need-same-length invariant-loop decreases-loop
 same_length c = search rules
@@ -40,7 +40,7 @@ same_length c = search rules
 returns : tie.Need-returns invariant-loop decreases-loop
 returns c =
     let h = c.before in
-    at-end (λ i. marksWritten h.before.before.args.x i h.before.before.args.space.now) h.loop.invariant.2 h.loop.invariant.0 c.loop-test.false
+    at_end (λ i. marks_written h.before.before.args.x i h.before.before.args.space.now) h.loop.invariant.2 h.loop.invariant.0 c.loop-test.false
 
 pub put-marks-spec : {M : Type 1} → statement M
 put-marks-spec =

@@ -1,9 +1,9 @@
 use mathlib.Core.Path.{ap, ◌∙◌}
 use lib.ListN.{length, set, length-set}
 use lib.Seq.{sets, length-sets}
-use Rattle.states.specs.Bytes.{stateBytes}
-use Rattle.session_bytes.specs.Space.{marksWritten, sessionWritten}
-use Rattle.session_bytes.proofs.SpaceLaws.{marks-length}
+use Rattle.states.specs.Bytes.{state_bytes}
+use Rattle.session_bytes.specs.Space.{marks_written, session_written}
+use Rattle.session_bytes.proofs.SpaceLaws.{marks_length}
 use native.Mathlib.Omega.{arith}
 use borrow.Author.Rules.{rules}
 use Rattle.session_bytes.proofs.write.write_session.Statement.{statement}
@@ -25,7 +25,7 @@ put-marks-requires c κs =
     let w = start.args.space.now in
     let f = h.before.before.flags.result in
     rw h.put-state.ensures
-    (omega (arith, length-sets (set w 0 f) 1 (stateBytes start.args.x.present), length-set w 0 f, start.requires))
+    (omega (arith, length-sets (set w 0 f) 1 (state_bytes start.args.x.present), length-set w 0 f, start.requires))
 
 same_length : tie.Need-same-length
 same_length c =
@@ -33,18 +33,18 @@ same_length c =
     let start = h.before.before.before.before.before in
     let w = start.args.space.now in
     let f = h.before.before.flags.result in
-    ap length c.before.before.put-marks.ensures ∙ marks-length start.args.x 8 _ ∙ ap length h.put-state.ensures
-    ∙ length-sets (set w 0 f) 1 (stateBytes start.args.x.present)
+    ap length c.before.before.put-marks.ensures ∙ marks_length start.args.x 8 _ ∙ ap length h.put-state.ensures
+    ∙ length-sets (set w 0 f) 1 (state_bytes start.args.x.present)
     ∙ length-set w 0 f
 
 returns : tie.Need-returns
-unfolding sessionWritten
+unfolding session_written
 returns c =
     let h = c.before.before.before.before.before.before in
     let a = h.before.before.before.before.before.args in
     c.before.before.put-marks.ensures
-    ∙ ap (marksWritten a.x 8)
-    (h.put-state.ensures ∙ ap (λ n. sets (set a.space.now 0 n) 1 (stateBytes a.x.present)) h.before.before.flags.ensures)
+    ∙ ap (marks_written a.x 8)
+    (h.put-state.ensures ∙ ap (λ n. sets (set a.space.now 0 n) 1 (state_bytes a.x.present)) h.before.before.flags.ensures)
 
 pub write-session-spec : {M : Type 1} → statement M
 write-session-spec =

@@ -1,5 +1,5 @@
 -- By computation. Assumes nothing.
-use Rattle.slots.specs.Layout.{maskAt}
+use Rattle.slots.specs.Layout.{mask_at}
 use borrow.Author.Rules.{rules}
 use Rattle.slots.proofs.read.mask_of.Statement.{statement}
 use Rattle.slots.proofs.read.mask_of.Tie as tie
@@ -14,7 +14,7 @@ shared-slice-read-result : tie.Need-shared-slice-read-result
 shared-slice-read-result c = search rules
 
 returns : tie.Need-returns
-unfolding maskAt
+unfolding mask_at
 returns c = search rules
 
 pub mask-of-spec : {M : Type 1} → statement M

@@ -1,5 +1,5 @@
 -- By what the four bytes are. Assumes nothing.
-use Rattle.slots.specs.Layout.{parentAt}
+use Rattle.slots.specs.Layout.{parent_at}
 use borrow.Author.Rules.{rules}
 use Rattle.slots.proofs.read.parent_of.Statement.{statement}
 use Rattle.slots.proofs.read.parent_of.Tie as tie
@@ -17,7 +17,7 @@ four-at-requires : tie.Need-four-at-requires
 four-at-requires c κs = search rules
 
 returns : tie.Need-returns
-unfolding parentAt
+unfolding parent_at
 returns c = search rules
 
 pub parent-of-spec : {M : Type 1} → statement M

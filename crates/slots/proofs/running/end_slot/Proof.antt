@@ -1,6 +1,6 @@
 -- Whether it is the last slot of its block. Assumes nothing.
 use borrow.Author.Tests.{eq-eqb, ne_eqb}
-use Rattle.slots.specs.Running.{endsAfter}
+use Rattle.slots.specs.Running.{ends_after}
 use borrow.Author.Rules.{rules}
 use Rattle.slots.proofs.running.end_slot.Statement.{statement}
 use Rattle.slots.proofs.running.end_slot.Tie as tie
@@ -18,11 +18,11 @@ same_length : tie.Need-same-length
 same_length c = search rules
 
 returns : tie.Need-returns
-unfolding endsAfter
+unfolding ends_after
 returns c = rw (eq-eqb _ 4095 c.if1.true)
 
 returns-2 : tie.Need-returns-2
-unfolding endsAfter
+unfolding ends_after
 returns-2 c = rw (ne_eqb _ 4095 c.if1.false)
 
 pub end-slot-spec : {M : Type 1} → statement M

@@ -3,7 +3,7 @@ use Prim.Native.Nat.{◌-◌, ◌<◌, ◌≤◌}
 use mathlib.Core.Path.{◌≡◌, refl, ◌∙◌}
 use lib.ListN.{length}
 use Rattle.slots.specs.Running.{Ended, Settling}
-use Rattle.slots.proofs.RunningLaws.{block-is, ended-more, ended-next, ended-low, settling-start, settling-end}
+use Rattle.slots.proofs.RunningLaws.{block_is, ended_more, ended_next, ended_low, settling_start, settling_end}
 use native.Mathlib.Omega.{arith}
 use borrow.Author.Rules.{rules}
 use Rattle.slots.proofs.running.settle.Statement.{statement}
@@ -17,10 +17,10 @@ decreases-loop work₀ ends k n b₀ from₀ work b from = 245 - b
 
 -- where slots are left, some block has not ended
 low : (l : tie.At-loop invariant-loop decreases-loop) → l.loop.from < l.before.before.before.args.n → l.loop.b < 245
-low l h = let r = l.before.before.before.requires in ended-low r.3 (l.loop.invariant.2 h) h
+low l h = let r = l.before.before.before.requires in ended_low r.3 (l.loop.invariant.2 h) h
 
 loop-holds : tie.Need-loop-init invariant-loop decreases-loop
-loop-holds c = (omega arith, refl, λ h. record { past = λ b l. absurd (omega arith) }, settling-start)
+loop-holds c = (omega arith, refl, λ h. record { past = λ b l. absurd (omega arith) }, settling_start)
 
 end-within-requires : tie.Need-end-within-requires invariant-loop decreases-loop
 end-within-requires c κs =
@@ -53,9 +53,9 @@ loop-again c =
     let y = block.ensures in (
       y.most start.args.n l.loop.invariant.0 end.1,
       block.auto.0 ∙ l.loop.invariant.1,
-      λ more. ended-next (ended-more y.low ended) (omega (arith, y.upto, end.2 (omega (arith, y.upto)))),
+      λ more. ended_next (ended_more y.low ended) (omega (arith, y.upto, end.2 (omega (arith, y.upto)))),
       y.carries ends start.args.work.now (λ j. omega (arith, c.before.before.before.before.before.before.before.before.slice-known.given j))
-          (λ j from upto. block-is ends l.loop.b j (omega (arith, start.requires.2)) (ended-more from ended) (omega (arith, end.0)))
+          (λ j from upto. block_is ends l.loop.b j (omega (arith, start.requires.2)) (ended_more from ended) (omega (arith, end.0)))
           l.loop.invariant.3,
     )
 
@@ -68,7 +68,7 @@ returns c =
     let x = c.before.loop.invariant in
     let h = c.loop-test.false in
     let e : c.before.loop.from ≡ start.args.n = omega (arith, x.0) in
-    settling-end (rw e at x.3) start.requires.0
+    settling_end (rw e at x.3) start.requires.0
 
 pub settle-spec : {M : Type 1} → statement M
 settle-spec =

@@ -1,6 +1,6 @@
 -- By computation. Assumes nothing.
 use lib.ListN.{length-set}
-use Rattle.slots.specs.Layout.{fourBytes}
+use Rattle.slots.specs.Layout.{four_bytes}
 use native.Mathlib.Omega.{arith}
 use borrow.Author.Rules.{rules}
 use Rattle.slots.proofs.write.put_parent.Statement.{statement}
@@ -34,7 +34,7 @@ same_length : tie.Need-same-length
 same_length c = search rules
 
 returns : tie.Need-returns
-unfolding fourBytes
+unfolding four_bytes
 returns c = search rules
 
 pub put-parent-spec : {M : Type 1} → statement M

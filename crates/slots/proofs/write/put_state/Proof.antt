@@ -4,8 +4,8 @@ use mathlib.Core.Path.{◌≡◌, refl, sym, ◌∙◌}
 use lib.ListN.{length, get_or, length-set}
 use lib.Seq.{sets}
 use Rattle.tasks.specs.Words.{state_of}
-use Rattle.tasks.proofs.InWords.{work-word, gap_word}
-use Rattle.states.specs.Bytes.{twos, stateBytes}
+use Rattle.tasks.proofs.InWords.{work_word, gap_word}
+use Rattle.states.specs.Bytes.{twos, state_bytes}
 use Rattle.slots.proofs.WriteLaws.{put-turn}
 use native.Mathlib.Omega.{arith}
 use borrow.Author.Rules.{rules}
@@ -65,13 +65,13 @@ loop-again c =
     let l = c.before.before.before in
     let v = l.before.before.args.t2 in
     let k = l.loop.k in
-    (omega arith, rw (c.before.work_in.ensures ∙ sym (work-word v k (omega arith)), c.gap-in.ensures ∙ sym (gap_word v k (omega arith))) (put-turn _ _ _ _ _ (omega arith) l.loop.invariant.1), simp length-set (omega arith))
+    (omega arith, rw (c.before.work_in.ensures ∙ sym (work_word v k (omega arith)), c.gap-in.ensures ∙ sym (gap_word v k (omega arith))) (put-turn _ _ _ _ _ (omega arith) l.loop.invariant.1), simp length-set (omega arith))
 
 same_length : tie.Need-same-length invariant-loop decreases-loop
 same_length c = c.before.loop.invariant.2
 
 returns : tie.Need-returns invariant-loop decreases-loop
-unfolding stateBytes
+unfolding state_bytes
 returns c = let left = c.loop-test.false in let e : c.before.loop.k ≡ 8 = omega arith in rw e at c.before.loop.invariant.1
 
 pub put-state-spec : {M : Type 1} → statement M

@@ -1,5 +1,5 @@
 -- By what the four bytes are. Assumes nothing.
-use Rattle.states.specs.Bytes.{fourAt}
+use Rattle.states.specs.Bytes.{four_at}
 use Rattle.std.proofs.Common.{rules}
 use Rattle.states.proofs.column.four_at.Statement.{statement}
 use Rattle.states.proofs.column.four_at.Tie as tie
@@ -29,7 +29,7 @@ joined-requires : tie.Need-joined-requires
 joined-requires c κs = search rules
 
 returns : tie.Need-returns
-unfolding fourAt
+unfolding four_at
 returns c =
     search rules
 

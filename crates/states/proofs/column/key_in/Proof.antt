@@ -1,5 +1,5 @@
 -- By what the four numbers are. Assumes nothing.
-use Rattle.states.specs.Keys.{keyIn}
+use Rattle.states.specs.Keys.{key_in}
 use Rattle.std.proofs.Common.{rules}
 use Rattle.states.proofs.column.key_in.Statement.{statement}
 use Rattle.states.proofs.column.key_in.Tie as tie
@@ -29,7 +29,7 @@ four-at-requires-4 : tie.Need-four-at-requires-4
 four-at-requires-4 c κs = search rules
 
 returns : tie.Need-returns
-unfolding keyIn
+unfolding key_in
 returns c =
     λ x. record {
       a = c.before.before.before.four-at.ensures x;

@@ -1,4 +1,4 @@
-use Rattle.states.specs.Bytes.{stateIn}
+use Rattle.states.specs.Bytes.{state_in}
 use Rattle.std.proofs.Common.{rules}
 use Rattle.states.proofs.column.words_in.Statement.{statement}
 use Rattle.states.proofs.column.words_in.Tie as tie
@@ -10,7 +10,7 @@ words-from-requires : tie.Need-words-from-requires
 words-from-requires c κs = search rules
 
 returns : tie.Need-returns
-unfolding stateIn
+unfolding state_in
 returns c = c.words-from.ensures
 
 pub words-in-spec : {M : Type 1} → statement M

@@ -1,7 +1,7 @@
 -- By what the words of a key are. Assumes nothing.
 use Rattle.std.proofs.Common.{◌∙◌, arith, rules}
-use Rattle.states.specs.Keys.{keyOf}
-use Rattle.states.proofs.WordLaws.{key-word}
+use Rattle.states.specs.Keys.{key_of}
+use Rattle.states.proofs.WordLaws.{key_word}
 use Rattle.states.proofs.keys.key_of.Statement.{statement}
 use Rattle.states.proofs.keys.key_of.Tie as tie
 
@@ -42,14 +42,14 @@ double-requires-4 : tie.Need-double-requires-4
 double-requires-4 c κs = search rules
 
 returns : tie.Need-returns
-unfolding keyOf
+unfolding key_of
 returns c =
     let v = c.before.before.before.before.args.t1 in
     λ x. record {
-      a = (c.before.before.before.double.ensures ∙ key-word v 0 (omega arith)) x;
-      b = (c.before.before.double2.ensures ∙ key-word v 1 (omega arith)) x;
-      c = (c.before.double3.ensures ∙ key-word v 2 (omega arith)) x;
-      d = (c.double4.ensures ∙ key-word v 3 (omega arith)) x;
+      a = (c.before.before.before.double.ensures ∙ key_word v 0 (omega arith)) x;
+      b = (c.before.before.double2.ensures ∙ key_word v 1 (omega arith)) x;
+      c = (c.before.double3.ensures ∙ key_word v 2 (omega arith)) x;
+      d = (c.double4.ensures ∙ key_word v 3 (omega arith)) x;
     }
 
 pub key-of-spec : {M : Type 1} → statement M

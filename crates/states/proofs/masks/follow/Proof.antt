@@ -1,6 +1,6 @@
 -- The next legal mask, or 256 after the last. Assumes nothing.
 use Rattle.std.proofs.Common.{sym, ◌∙◌, rules}
-use Rattle.states.proofs.MaskLaws.{follows-end, follows_on}
+use Rattle.states.proofs.MaskLaws.{follows_end, follows_on}
 use Rattle.states.proofs.masks.follow.Statement.{statement}
 use Rattle.states.proofs.masks.follow.Tie as tie
 
@@ -11,7 +11,7 @@ cast-result : tie.Need-overflow-cast-result
 cast-result c = search rules
 
 returns : tie.Need-returns
-returns c = follows-end _ _ (sym c.before.next-mask.ensures ∙ c.if1.true)
+returns c = follows_end _ _ (sym c.before.next-mask.ensures ∙ c.if1.true)
 
 returns-2 : tie.Need-returns-2
 returns-2 c = follows_on _ _ c.before.next-mask.ensures c.if1.false

@@ -1,7 +1,7 @@
 -- The next submask in increasing order. Assumes nothing.
 use Rattle.std.proofs.Common.{ap, arith, rules}
 use lib.Bits.{bit_and}
-use Rattle.states.specs.Masks.{nextMask}
+use Rattle.states.specs.Masks.{next_mask}
 use Rattle.states.proofs.MaskLaws.{wrapped}
 use Rattle.states.proofs.masks.next_mask.Statement.{statement}
 use Rattle.states.proofs.masks.next_mask.Tie as tie
@@ -10,7 +10,7 @@ wrapping-sub-u8-requires : tie.Need-wrapping-sub-u8-requires
 wrapping-sub-u8-requires c κs = search rules
 
 returns : tie.Need-returns
-unfolding nextMask
+unfolding next_mask
 returns c =
     let a = c.before.args in
     let r = c.wrapping-sub-u8 in

@@ -1,5 +1,5 @@
 -- The full mask is ticked. Assumes nothing.
-use Rattle.states.specs.Miss.{fullBy}
+use Rattle.states.specs.Miss.{full_by}
 use Rattle.std.proofs.Common.{rules}
 use Rattle.states.proofs.miss.full_misses.Statement.{statement}
 use Rattle.states.proofs.miss.full_misses.Tie as tie
@@ -17,7 +17,7 @@ misses-requires : tie.Need-misses-requires
 misses-requires c κs = search rules
 
 returns : tie.Need-returns
-unfolding fullBy
+unfolding full_by
 returns c = rw (c.before.after.ensures, c.before.before.prepare.ensures, c.before.before.before.free.ensures) at c.misses.ensures
 
 pub full-misses-spec : {M : Type 1} → statement M

@@ -1,6 +1,6 @@
 -- The invariant: the words of the first k tasks are loaded. Assumes nothing.
 use Rattle.std.proofs.Common.{◌+◌, ◌-◌, ◌*◌, ◌≤◌, get_or, refl, ap, ◌∙◌, arith, rules}
-use Rattle.lists.proofs.Fill.{Filled, filled-start, filled-store, filled-end}
+use Rattle.lists.proofs.Fill.{Filled, filled_start, filled_store, filled_end}
 use Rattle.tasks.specs.Words.{state_of}
 use Rattle.states.proofs.WordLaws.{loaded}
 use Rattle.states.proofs.words.words_from.Statement.{statement}
@@ -13,7 +13,7 @@ abbrev decreases-loop : tie.decreases-loop
 decreases-loop bytes at v₀ k₀ v k = 8 - k
 
 loop-holds : tie.Need-loop-init invariant-loop decreases-loop
-loop-holds c = (omega arith, filled-start refl)
+loop-holds c = (omega arith, filled_start refl)
 
 mul-two : tie.Need-overflow-mul-two invariant-loop decreases-loop
 mul-two c = search rules
@@ -54,12 +54,12 @@ loop-less c = search rules
 loop-again : tie.Need-loop-preserved invariant-loop decreases-loop
 loop-again c =
     let inv = c.before.before.before.before.loop.invariant in
-    (omega arith, filled-store inv.1 (omega arith) c.two.ensures)
+    (omega arith, filled_store inv.1 (omega arith) c.two.ensures)
 
 returns : tie.Need-returns invariant-loop decreases-loop
 returns c =
     let l = c.before in
-    ap state_of (filled-end l.loop.invariant.1 c.loop-test.false) ∙ loaded l.before.before.args.bytes.now l.before.before.args.at l.before.shared-slice-known.given
+    ap state_of (filled_end l.loop.invariant.1 c.loop-test.false) ∙ loaded l.before.before.args.bytes.now l.before.before.args.at l.before.shared-slice-known.given
 
 pub words-from-spec : {M : Type 1} → statement M
 words-from-spec =

@@ -1,11 +1,11 @@
 -- 52 bytes are room for every sheet, and what was written is read as the table. Assumes nothing.
-use Rattle.tasks.specs.Answers.{writingAnswer}
-use Rattle.tasks.specs.Sheet.{sheetOf}
+use Rattle.tasks.specs.Answers.{writing_answer}
+use Rattle.tasks.specs.Sheet.{sheet_of}
 use lib.Seq.{length-take-le}
 use Prim.Native.Nat.{◌≤◌}
 use lib.ListN.{length, take}
-use Rattle.tasks.proofs.Answers.{sheet-is, sheet-told}
-use Rattle.tasks.proofs.Again.{again-refused, again-written}
+use Rattle.tasks.proofs.Answers.{sheet_is, sheet_told}
+use Rattle.tasks.proofs.Again.{again_refused, again_written}
 use mathlib.Core.Path.{◌≡◌, sym, ap, ◌∙◌}
 use native.Mathlib.Omega.{arith}
 use borrow.Author.Rules.{rules}
@@ -29,14 +29,14 @@ enum-known-n c = search rules
 
 array-share-prefix-out : tie.Need-array-share-prefix-out
 array-share-prefix-out c =
-    let w = again-written c.before.before.before.before.before.before.args.t _ (omega arith) (record { work = search rules; deadline = search rules; gap = search rules }) _ (ap writingAnswer (sym c.before.n.given.1) ∙ c.before.before.before.before.write-sheet.ensures.0) in
+    let w = again_written c.before.before.before.before.before.before.args.t _ (omega arith) (record { work = search rules; deadline = search rules; gap = search rules }) _ (ap writing_answer (sym c.before.n.given.1) ∙ c.before.before.before.before.write-sheet.ensures.0) in
     let k : length c.before.before.before.before.write-sheet.new.1.0 ≡ 52 = c.before.before.before.before.write-sheet.auto.1.0 in
     let h : c.before.n.given.0.0 ≤ length c.before.before.before.before.write-sheet.new.1.0 = omega (arith, w.0) in
     h
 
 slice-aggregate-read-sheet : tie.Need-slice-aggregate-read-sheet
 slice-aggregate-read-sheet c =
-    let w = again-written c.before.before.before.before.before.before.before.args.t _ (omega arith) (record { work = search rules; deadline = search rules; gap = search rules }) _ (ap writingAnswer (sym c.before.before.n.given.1) ∙ c.before.before.before.before.before.write-sheet.ensures.0) in
+    let w = again_written c.before.before.before.before.before.before.before.args.t _ (omega arith) (record { work = search rules; deadline = search rules; gap = search rules }) _ (ap writing_answer (sym c.before.before.n.given.1) ∙ c.before.before.before.before.before.write-sheet.ensures.0) in
     let k : length c.before.before.before.before.before.write-sheet.new.1.0 ≡ 52 = c.before.before.before.before.before.write-sheet.auto.1.0 in
     let h : c.before.before.n.given.0.0 ≤ length c.before.before.before.before.before.write-sheet.new.1.0 = omega (arith, w.0) in
     sym (length-take-le c.before.before.n.given.0.0 c.before.before.before.before.before.write-sheet.new.1.0 h)
@@ -46,14 +46,14 @@ read-sheet-requires c κs = search rules
 
 returns : tie.Need-returns
 returns c =
-    sheet-told
-    (c.refused.ensures ∙ again-refused c.before.before.before.before.before.before.before.args.t _ (omega arith) _ (ap writingAnswer (sym c.before.before.r.given.1) ∙ c.before.before.before.before.before.write-sheet.ensures.0))
+    sheet_told
+    (c.refused.ensures ∙ again_refused c.before.before.before.before.before.before.before.args.t _ (omega arith) _ (ap writing_answer (sym c.before.before.r.given.1) ∙ c.before.before.before.before.before.write-sheet.ensures.0))
 
 returns-2 : tie.Need-returns-2
 returns-2 c =
-    let w = again-written c.before.before.before.before.before.before.before.before.args.t _ (omega arith) (record { work = search rules; deadline = search rules; gap = search rules }) _ (ap writingAnswer (sym c.before.before.before.n.given.1) ∙ c.before.before.before.before.before.before.write-sheet.ensures.0) in
-    sheet-told
-    (sheet-is c.read-sheet.ensures ∙ ap (λ l. sheetOf (take c.before.before.before.n.given.0.0 l)) c.before.before.before.before.before.before.write-sheet.ensures.1 ∙ w.1)
+    let w = again_written c.before.before.before.before.before.before.before.before.args.t _ (omega arith) (record { work = search rules; deadline = search rules; gap = search rules }) _ (ap writing_answer (sym c.before.before.before.n.given.1) ∙ c.before.before.before.before.before.before.write-sheet.ensures.0) in
+    sheet_told
+    (sheet_is c.read-sheet.ensures ∙ ap (λ l. sheet_of (take c.before.before.before.n.given.0.0 l)) c.before.before.before.before.before.before.write-sheet.ensures.1 ∙ w.1)
 
 pub copy-table-spec : {M : Type 1} → statement M
 copy-table-spec =

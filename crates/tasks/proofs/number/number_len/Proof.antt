@@ -4,13 +4,13 @@ use mathlib.Core.Path.{◌≡◌, ap}
 use native.Mathlib.Omega.{arith}
 use lib.ListN.{length}
 use borrow.Author.Rules.{rules}
-use Rattle.tasks.specs.Number.{numberBytes}
+use Rattle.tasks.specs.Number.{number_bytes}
 use Rattle.tasks.proofs.Groups.{bytes_low, bytes_high, few_bytes}
 use Rattle.tasks.proofs.number.number_len.Statement.{statement}
 use Rattle.tasks.proofs.number.number_len.Tie as tie
 
 abbrev invariant-loop : tie.invariant-loop
-invariant-loop x rest₀ n₀ rest n = (length (numberBytes x) + 1 ≡ n + length (numberBytes rest)) × (n + rest ≤ x + 1) × (x < 256)
+invariant-loop x rest₀ n₀ rest n = (length (number_bytes x) + 1 ≡ n + length (number_bytes rest)) × (n + rest ≤ x + 1) × (x < 256)
 
 abbrev decreases-loop : tie.decreases-loop
 decreases-loop x rest₀ n₀ rest n = rest
@@ -32,7 +32,7 @@ loop-again c =
 returns : tie.Need-returns invariant-loop decreases-loop
 returns c =
     let h = c.before in
-    let one : length (numberBytes h.loop.rest) ≡ 1 = ap length (bytes_low h.loop.rest c.loop-test.false) in
+    let one : length (number_bytes h.loop.rest) ≡ 1 = ap length (bytes_low h.loop.rest c.loop-test.false) in
     (omega arith, omega (arith, few_bytes h.before.args.x 1 (omega arith)))
 
 pub number-len-spec : {M : Type 1} → statement M

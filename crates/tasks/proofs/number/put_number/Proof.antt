@@ -7,24 +7,24 @@ use native.Mathlib.Numerals.{add-one}
 use lib.ListN.{length, set, length-set}
 use lib.Seq.{sets}
 use borrow.Author.Rules.{rules}
-use Rattle.tasks.specs.Number.{numberBytes}
+use Rattle.tasks.specs.Number.{number_bytes}
 use Rattle.tasks.proofs.Groups.{bytes_low, bytes_high}
 use Rattle.tasks.proofs.number.put_number.Statement.{statement}
 use Rattle.tasks.proofs.number.put_number.Tie as tie
 
 abbrev invariant-loop : tie.invariant-loop
 invariant-loop out₀ at x rest₀ i₀ out rest i =
-    (sets out i (numberBytes rest) ≡ sets out₀ at (numberBytes x)) × (i + length (numberBytes rest) ≡ at + length (numberBytes x)) × (length out ≡ length out₀) × (at + length (numberBytes x) ≤ length out₀)
+    (sets out i (number_bytes rest) ≡ sets out₀ at (number_bytes x)) × (i + length (number_bytes rest) ≡ at + length (number_bytes x)) × (length out ≡ length out₀) × (at + length (number_bytes x) ≤ length out₀)
 
 abbrev decreases-loop : tie.decreases-loop
 decreases-loop out₀ at x rest₀ i₀ out rest i = rest
 
 -- the bytes of a number, stored: the first one, and then the rest from the next place
-high-stored : (out : List ℕ) (i x : ℕ) → 128 ≤ x → sets out i (numberBytes x) ≡ sets (set out i (x % 128 + 128)) (i + 1) (numberBytes (x / 128))
-high-stored out i x h = ap (sets out i) (bytes_high x h) ∙ ap (λ j. sets (set out i (x % 128 + 128)) j (numberBytes (x / 128))) (sym (add-one i))
+high_stored : (out : List ℕ) (i x : ℕ) → 128 ≤ x → sets out i (number_bytes x) ≡ sets (set out i (x % 128 + 128)) (i + 1) (number_bytes (x / 128))
+high_stored out i x h = ap (sets out i) (bytes_high x h) ∙ ap (λ j. sets (set out i (x % 128 + 128)) j (number_bytes (x / 128))) (sym (add-one i))
 
-low-stored : (out : List ℕ) (i x : ℕ) → x < 128 → sets out i (numberBytes x) ≡ set out i x
-low-stored out i x h = ap (sets out i) (bytes_low x h)
+low_stored : (out : List ℕ) (i x : ℕ) → x < 128 → sets out i (number_bytes x) ≡ set out i x
+low_stored out i x h = ap (sets out i) (bytes_low x h)
 
 loop-holds : tie.Need-loop-init invariant-loop decreases-loop
 loop-holds c = (refl, refl, refl, c.before.requires)
@@ -48,7 +48,7 @@ loop-again c =
     let h = c.before.before.before.before.before.loop in
     let t = c.before.before.before.before.loop-test.true in
     let e = c.before.before.put_byte.ensures in
-    (ap (λ o. sets o (h.i + 1) (numberBytes (h.rest / 128))) e ∙ sym (high-stored h.out h.i h.rest t) ∙ h.invariant.0, omega (arith, ap length (bytes_high h.rest t)), ap length e ∙ length-set h.out h.i _ ∙ h.invariant.2, h.invariant.3)
+    (ap (λ o. sets o (h.i + 1) (number_bytes (h.rest / 128))) e ∙ sym (high_stored h.out h.i h.rest t) ∙ h.invariant.0, omega (arith, ap length (bytes_high h.rest t)), ap length e ∙ length-set h.out h.i _ ∙ h.invariant.2, h.invariant.3)
 
 put-byte-requires-2 : tie.Need-put-byte-requires-2 invariant-loop decreases-loop
 put-byte-requires-2 c κs = omega (arith, ap length (bytes_low c.before.before.loop.rest c.before.loop-test.false))
@@ -65,7 +65,7 @@ returns : tie.Need-returns invariant-loop decreases-loop
 returns c =
     let h = c.before.before.before.before.before.loop in
     let t = c.before.before.before.before.loop-test.false in
-    (omega (arith, ap length (bytes_low h.rest t)), c.before.before.put-byte2.ensures ∙ sym (low-stored h.out h.i h.rest t) ∙ h.invariant.0)
+    (omega (arith, ap length (bytes_low h.rest t)), c.before.before.put-byte2.ensures ∙ sym (low_stored h.out h.i h.rest t) ∙ h.invariant.0)
 
 pub put-number-spec : {M : Type 1} → statement M
 put-number-spec =

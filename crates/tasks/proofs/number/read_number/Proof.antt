@@ -6,7 +6,7 @@ use native.Mathlib.Omega.{arith}
 use lib.ListN.{length, get_or}
 use borrow.Author.Tests.{lt-ltb, le-ltb}
 use borrow.Author.Rules.{rules}
-use Rattle.tasks.specs.Answers.{numberAnswer}
+use Rattle.tasks.specs.Answers.{number_answer}
 use Rattle.tasks.specs.Number.{number_in, number_at}
 use Rattle.tasks.specs.declared.number.Number.TheVariants.{Value, Refused}
 use Rattle.tasks.proofs.number.read_number.Statement.{statement}
@@ -29,9 +29,9 @@ module _ (s : List ℕ) (at : ℕ) where
           rw (lt-ltb at (length s) here, le-ltb (get_or s at 0) 0 (omega arith), le-ltb (get_or s at 0) 128 high, le-ltb (at + 1) (length s) h)
 
       module _ (there : at + 1 < length s) where
-        zero-last : get_or s (at + 1) 0 < 1 → Refused 2 ≡ number_at s at
+        zero_last : get_or s (at + 1) 0 < 1 → Refused 2 ≡ number_at s at
         unfolding number_at number_in
-        zero-last h =
+        zero_last h =
             rw
             (lt-ltb at (length s) here, le-ltb (get_or s at 0) 0 (omega arith), le-ltb (get_or s at 0) 128 high, lt-ltb (at + 1) (length s) there, lt-ltb (get_or s (at + 1) 0) 1 h)
 
@@ -48,7 +48,7 @@ module _ (s : List ℕ) (at : ℕ) where
             (lt-ltb at (length s) here, le-ltb (get_or s at 0) 0 (omega arith), le-ltb (get_or s at 0) 128 high, lt-ltb (at + 1) (length s) there, le-ltb (get_or s (at + 1) 0) 1 (omega arith), le-ltb (get_or s (at + 1) 0) 128 h)
 
 returns : tie.Need-returns
-returns c = ap numberAnswer (ended _ _ c.if1.true)
+returns c = ap number_answer (ended _ _ c.if1.true)
 
 shared-slice-read-wide : tie.Need-shared-slice-read-wide
 shared-slice-read-wide c = search rules
@@ -63,7 +63,7 @@ returns-2 : tie.Need-returns-2
 returns-2 c =
     let w = c.before.wide.ensures in
     let a = c.before.before.before.before.before.args in
-    rw w.0 (ap numberAnswer (one a.s.now a.at c.before.before.before.if1.false (rw w.0 at c.if2.true)))
+    rw w.0 (ap number_answer (one a.s.now a.at c.before.before.before.if1.false (rw w.0 at c.if2.true)))
 
 add-next : tie.Need-overflow-add-next
 add-next c = search rules
@@ -72,7 +72,7 @@ returns-3 : tie.Need-returns-3
 returns-3 c =
     let w = c.before.before.wide.ensures in
     let a = c.before.before.before.before.before.before.args in
-    ap numberAnswer
+    ap number_answer
     (cut a.s.now a.at c.before.before.before.before.if1.false (rw w.0 at c.before.if2.false) c.if3.true)
 
 shared-slice-read-wide-2 : tie.Need-shared-slice-read-wide-2
@@ -86,8 +86,8 @@ returns-4 c =
     let w = c.before.before.before.before.before.wide.ensures in
     let v = c.before.wide2.ensures in
     let h = c.before.before.before.before.before.before.before in
-    ap numberAnswer
-    (zero-last h.before.before.args.s.now h.before.before.args.at h.if1.false
+    ap number_answer
+    (zero_last h.before.before.args.s.now h.before.before.args.at h.if1.false
     (rw w.0 at c.before.before.before.before.if2.false) c.before.before.before.if3.false (rw v.0 at c.if4.true))
 
 mul-t13 : tie.Need-overflow-mul-t13
@@ -105,7 +105,7 @@ returns-5 c =
     let v = c.before.before.wide2.ensures in
     let h = c.before.before.before.before.before.before.before.before in
     rw (w.0, v.0)
-    (ap numberAnswer
+    (ap number_answer
     (two h.before.before.args.s.now h.before.before.args.at h.if1.false
     (rw w.0 at c.before.before.before.before.before.if2.false) c.before.before.before.before.if3.false (rw v.0 at c.before.if4.false) (rw v.0 at c.if5.true)))
 
@@ -114,7 +114,7 @@ returns-6 c =
     let w = c.before.before.before.before.before.before.wide.ensures in
     let v = c.before.before.wide2.ensures in
     let h = c.before.before.before.before.before.before.before.before in
-    ap numberAnswer
+    ap number_answer
     (third h.before.before.args.s.now h.before.before.args.at h.if1.false
     (rw w.0 at c.before.before.before.before.before.if2.false) c.before.before.before.before.if3.false (rw v.0 at c.if5.false))
 

@@ -3,23 +3,23 @@ use Prim.Native.Nat.{◌+◌, ◌-◌, ◌≤◌}
 use mathlib.Core.Path.{refl}
 use lib.IntN.{pos}
 use lib.ListN.{get_or}
-use Rattle.lists.proofs.Fill.{Filled, filled-start, filled-store, filled-end}
+use Rattle.lists.proofs.Fill.{Filled, filled_start, filled_store, filled_end}
 use Rattle.jobs.proofs.Signed.{back}
-use Rattle.tasks.specs.Places.{beforeIn, earlierIn}
-use Rattle.tasks.proofs.Place.{earlier-turn, earlier-room}
+use Rattle.tasks.specs.Places.{before_in, earlier_in}
+use Rattle.tasks.proofs.Place.{earlier_turn, earlier_room}
 use native.Mathlib.Omega.{arith}
 use borrow.Author.Rules.{rules}
 use Rattle.tasks.proofs.places.count_job.Statement.{statement}
 use Rattle.tasks.proofs.places.count_job.Tie as tie
 
 abbrev invariant-loop : tie.invariant-loop
-invariant-loop j counts keys ages out₀ i₀ out i = (i ≤ 8) × Filled 0 (earlierIn keys ages (j + 1)) out i
+invariant-loop j counts keys ages out₀ i₀ out i = (i ≤ 8) × Filled 0 (earlier_in keys ages (j + 1)) out i
 
 abbrev decreases-loop : tie.decreases-loop
 decreases-loop j counts keys ages out₀ i₀ out i = 8 - i
 
 loop-holds : tie.Need-loop-init invariant-loop decreases-loop
-loop-holds c = (omega arith, filled-start refl)
+loop-holds c = (omega arith, filled_start refl)
 
 mul-out : tie.Need-overflow-mul-out invariant-loop decreases-loop
 mul-out c = search rules
@@ -61,7 +61,7 @@ add-out : tie.Need-overflow-add-out invariant-loop decreases-loop
 add-out c =
     let turn = c.before.before.before.before.before.before in
     let a = turn.before.args in
-    earlier-room a.t2 a.t3 a.j turn.loop.i turn.before.requires.1 (omega arith) c.goes_before.result (omega arith)
+    earlier_room a.t2 a.t3 a.j turn.loop.i turn.before.requires.1 (omega arith) c.goes_before.result (omega arith)
 
 mul-out-2 : tie.Need-overflow-mul-out-2 invariant-loop decreases-loop
 mul-out-2 c = search rules
@@ -76,7 +76,7 @@ loop-less : tie.Need-loop-smaller invariant-loop decreases-loop
 loop-less c = search rules
 
 loop-again : tie.Need-loop-preserved invariant-loop decreases-loop
-unfolding beforeIn
+unfolding before_in
 loop-again c =
     let fourth = c.before in
     let third = fourth.before in
@@ -89,10 +89,10 @@ loop-again c =
     rw
     (back (get_or a.t2 a.j (pos 0)) first.goes-before-arg.given, back (get_or a.t3 a.j (pos 0)) second.goes-before-arg2.given, back (get_or a.t2 h.i (pos 0)) third.goes-before-arg3.given, back (get_or a.t3 h.i (pos 0)) fourth.goes-before-arg4.given)
     at c.goes_before.ensures in
-    (omega arith, filled-store h.invariant.1 (omega arith) (earlier-turn a.t2 a.t3 a.j h.i turn.before.requires.1 (omega arith) e))
+    (omega arith, filled_store h.invariant.1 (omega arith) (earlier_turn a.t2 a.t3 a.j h.i turn.before.requires.1 (omega arith) e))
 
 returns : tie.Need-returns invariant-loop decreases-loop
-returns c = filled-end c.before.loop.invariant.1 c.loop-test.false
+returns c = filled_end c.before.loop.invariant.1 c.loop-test.false
 
 pub count-job-spec : {M : Type 1} → statement M
 count-job-spec =

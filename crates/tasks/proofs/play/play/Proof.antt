@@ -4,7 +4,7 @@ use mathlib.Core.Bool.{false}
 use lib.ListN.{length, drop}
 use Rattle.tasks.specs.State.{improper}
 use Rattle.tasks.specs.Replay.{played}
-use Rattle.tasks.proofs.Played.{played-refused, played-missed, played-next, played-end}
+use Rattle.tasks.proofs.Played.{played-refused, played_missed, played-next, played-end}
 use native.Mathlib.Omega.{arith}
 use borrow.Author.Rules.{rules}
 use Rattle.tasks.proofs.play.play.Statement.{statement}
@@ -54,7 +54,7 @@ returns-2 c =
     let legal = sym m.illegal.ensures ∙ c.before.before.before.before.before.if1.false in
     sym
     (h.loop.invariant.2
-    ∙ played-missed a.args.t a.requires.0 h.loop.s h.loop.invariant.1 a.args.masks.now h.loop.i c.before.before.before.before.before.before.before.before.loop-test.true legal c.before.before.before.before.release.ensures c.before.before.before.choose.ensures c.before.before.run.ensures (sym c.before.missed.ensures ∙ c.if2.true))
+    ∙ played_missed a.args.t a.requires.0 h.loop.s h.loop.invariant.1 a.args.masks.now h.loop.i c.before.before.before.before.before.before.before.before.loop-test.true legal c.before.before.before.before.release.ensures c.before.before.before.choose.ensures c.before.before.run.ensures (sym c.before.missed.ensures ∙ c.if2.true))
 
 loop-less : tie.Need-loop-smaller invariant-loop decreases-loop
 loop-less c = search rules

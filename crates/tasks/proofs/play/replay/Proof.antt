@@ -1,9 +1,9 @@
 -- From the start state, with no tick before. Assumes nothing.
 use mathlib.Core.Path.{ap, ◌∙◌}
 use Rattle.tasks.specs.State.{start}
-use Rattle.tasks.specs.Replay.{playedFrom}
-use Rattle.tasks.proofs.Answers.{replay-is}
-use Rattle.tasks.proofs.Played.{replay-names, replayed-from}
+use Rattle.tasks.specs.Replay.{played_from}
+use Rattle.tasks.proofs.Answers.{replay_is}
+use Rattle.tasks.proofs.Played.{replay-names, replayed_from}
 use borrow.Author.Rules.{rules}
 use Rattle.tasks.proofs.play.replay.Statement.{statement}
 use Rattle.tasks.proofs.play.replay.Tie as tie
@@ -19,7 +19,7 @@ returns c =
     let a = c.before.before.before.args in
     let e = c.play-on.ensures in
     replay-names a.t a.masks.now
-    (replay-is (e.0, e.1) ∙ ap (λ s. playedFrom a.t s 0 a.masks.now) c.before.start.ensures ∙ replayed-from a.t a.masks.now)
+    (replay_is (e.0, e.1) ∙ ap (λ s. played_from a.t s 0 a.masks.now) c.before.start.ensures ∙ replayed_from a.t a.masks.now)
 
 pub replay-spec : {M : Type 1} → statement M
 replay-spec = tie.close (tie.spec start-requires play-on-requires returns)

@@ -1,7 +1,7 @@
 -- Each number is refused, or passes its rule and the next is read; the tasks are read with a count of at most 8. Assumes nothing.
-use Rattle.tasks.proofs.Fields.{field-read}
-use Rattle.tasks.specs.Table.{lastPolicy}
-use Rattle.tasks.specs.Sheet.{field_at, fromPolicy}
+use Rattle.tasks.proofs.Fields.{field_read}
+use Rattle.tasks.specs.Table.{last_policy}
+use Rattle.tasks.specs.Sheet.{field_at, from_policy}
 use Rattle.tasks.specs.declared.number.Number.TheVariants.{Value}
 use mathlib.Core.Path.{◌≡◌, sym, ◌∙◌}
 use native.Mathlib.Omega.{arith}
@@ -10,7 +10,7 @@ use Rattle.tasks.proofs.sheet.read_header.Statement.{statement}
 use Rattle.tasks.proofs.sheet.read_header.Tie as tie
 
 -- the numbers that were read, each after the one before
-policy-read : (c : tie.After-policy) → field_at c.before.before.before.before.args.s.now c.before.before.before.before.args.at 0 lastPolicy 4 ≡ Value c.policy.given.0.0 c.policy.given.0.1.0
+policy-read : (c : tie.After-policy) → field_at c.before.before.before.before.args.s.now c.before.before.before.before.args.at 0 last_policy 4 ≡ Value c.policy.given.0.0 c.policy.given.0.1.0
 policy-read c = sym c.before.before.read-field.ensures ∙ c.policy.given.1
 
 abbrev policy-place : tie.After-m → tie.After-policy
@@ -63,36 +63,36 @@ enum-known-n c = search rules
 
 cast-read-tasks : tie.Need-overflow-cast-read-tasks
 cast-read-tasks c =
-    omega (arith, (field-read _ _ 0 lastPolicy 4 (policy-read (policy-place (m-place c.before)))).upto)
+    omega (arith, (field_read _ _ 0 last_policy 4 (policy-read (policy-place (m-place c.before)))).upto)
 
 cast-read-tasks-2 : tie.Need-overflow-cast-read-tasks-2
 cast-read-tasks-2 c =
-    omega (arith, (field-read _ _ 1 8 5 (m-read (m-place c.before))).upto)
+    omega (arith, (field_read _ _ 1 8 5 (m-read (m-place c.before))).upto)
 
 cast-read-tasks-3 : tie.Need-overflow-cast-read-tasks-3
 cast-read-tasks-3 c =
-    omega (arith, (field-read _ _ 1 8 6 (n-read c.before)).upto)
+    omega (arith, (field_read _ _ 1 8 6 (n-read c.before)).upto)
 
 read-tasks-requires : tie.Need-read-tasks-requires
 read-tasks-requires c κs =
-    omega (arith, (field-read _ _ 1 8 6 (n-read c.before)).upto)
+    omega (arith, (field_read _ _ 1 8 6 (n-read c.before)).upto)
 
 returns : tie.Need-returns
-unfolding fromPolicy
+unfolding from_policy
 returns c =
     let r = c.before.before in
     let e = sym r.before.before.read-field.ensures ∙ r.r.given.1 in
     rw e c.refused.ensures
 
 returns-2 : tie.Need-returns-2
-unfolding fromPolicy
+unfolding from_policy
 returns-2 c =
     let r = c.before.before in
     let f = sym r.before.before.read-field2.ensures ∙ r.r2.given.1 in
     rw (policy-read r.before.before.before.before, f) c.refused2.ensures
 
 returns-3 : tie.Need-returns-3
-unfolding fromPolicy
+unfolding from_policy
 returns-3 c =
     let r = c.before.before in
     let m = r.before.before.before.before in
@@ -100,7 +100,7 @@ returns-3 c =
     rw (policy-read (policy-place m), m-read m, g) c.refused3.ensures
 
 returns-4 : tie.Need-returns-4
-unfolding fromPolicy
+unfolding from_policy
 returns-4 c =
     let n = c.before.before in
     rw (policy-read (policy-place (m-place n)), m-read (m-place n), n-read n) c.read-tasks.ensures

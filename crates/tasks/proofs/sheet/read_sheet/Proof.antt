@@ -1,6 +1,6 @@
 -- The field count is refused, or the policy is read next. Assumes nothing.
-use Rattle.tasks.specs.Sheet.{sheetOf}
-use Rattle.tasks.proofs.Answers.{sheet-told}
+use Rattle.tasks.specs.Sheet.{sheet_of}
+use Rattle.tasks.proofs.Answers.{sheet_told}
 use mathlib.Core.Path.{sym, ◌∙◌}
 use borrow.Author.Rules.{rules}
 use Rattle.tasks.proofs.sheet.read_sheet.Statement.{statement}
@@ -22,12 +22,12 @@ read-header-requires : tie.Need-read-header-requires
 read-header-requires c κs = search rules
 
 returns : tie.Need-returns
-unfolding sheetOf
-returns c = let e = sym c.before.before.before.before.read-field.ensures ∙ c.before.before.r.given.1 in sheet-told (rw e c.refused.ensures)
+unfolding sheet_of
+returns c = let e = sym c.before.before.before.before.read-field.ensures ∙ c.before.before.r.given.1 in sheet_told (rw e c.refused.ensures)
 
 returns-2 : tie.Need-returns-2
-unfolding sheetOf
-returns-2 c = let e = sym c.before.before.before.before.read-field.ensures ∙ c.before.before.next.given.1 in sheet-told (rw e c.read-header.ensures)
+unfolding sheet_of
+returns-2 c = let e = sym c.before.before.before.before.read-field.ensures ∙ c.before.before.next.given.1 in sheet_told (rw e c.read-header.ensures)
 
 pub read-sheet-spec : {M : Type 1} → statement M
 read-sheet-spec =

@@ -1,5 +1,5 @@
 -- Three numbers, one after the other; the first that is refused ends the task. Assumes nothing.
-use Rattle.tasks.specs.Sheet.{taskAt}
+use Rattle.tasks.specs.Sheet.{task_at}
 use Rattle.tasks.proofs.Answers.{number_is}
 use mathlib.Core.Path.{sym, ◌∙◌}
 use borrow.Author.Rules.{rules}
@@ -37,18 +37,18 @@ task-of-requires : tie.Need-task-of-requires
 task-of-requires c κs = search rules
 
 returns : tie.Need-returns
-unfolding taskAt
+unfolding task_at
 returns c = let e = sym (number_is c.before.before.before.read_number.ensures) ∙ c.before.r.given.1 in rw e
 
 returns-2 : tie.Need-returns-2
-unfolding taskAt
+unfolding task_at
 returns-2 c =
     let e = sym (number_is c.before.before.before.before.before.before.before.read_number.ensures) ∙ c.before.before.before.before.before.work.given.1 in
     let f = sym (number_is c.before.before.before.read-number2.ensures) ∙ c.before.r2.given.1 in
     rw (e, f)
 
 returns-3 : tie.Need-returns-3
-unfolding taskAt
+unfolding task_at
 returns-3 c =
     let e = sym (number_is c.before.before.before.before.before.before.before.before.before.before.before.read_number.ensures) ∙ c.before.before.before.before.before.before.before.before.before.work.given.1 in
     let f = sym (number_is c.before.before.before.before.before.before.before.read-number2.ensures) ∙ c.before.before.before.before.before.deadline.given.1 in
@@ -56,12 +56,12 @@ returns-3 c =
     rw (e, f, g)
 
 returns-4 : tie.Need-returns-4
-unfolding taskAt
+unfolding task_at
 returns-4 c =
     let e = sym (number_is c.before.before.before.before.before.before.before.before.before.before.before.before.read_number.ensures) ∙ c.before.before.before.before.before.before.before.before.before.before.work.given.1 in
     let f = sym (number_is c.before.before.before.before.before.before.before.before.read-number2.ensures) ∙ c.before.before.before.before.before.before.deadline.given.1 in
     let g = sym (number_is c.before.before.before.before.read-number3.ensures) ∙ c.before.before.gap.given.1 in
-    rw (e, f, g) c.task-of.ensures
+    rw (e, f, g) c.task_of_lem.ensures
 
 pub read-task-spec : {M : Type 1} → statement M
 read-task-spec =

@@ -6,7 +6,7 @@ use Rattle.lists.specs.Lists.{pick}
 use Rattle.tasks.specs.declared.table.Table.{Table}
 use Rattle.tasks.specs.declared.sheet.Task.{Task}
 use Rattle.tasks.specs.declared.sheet.TaskRead.TheVariants as TaskRead
-use Rattle.tasks.specs.Sheet.{taskAt, withTask, afterTask, tasksFrom, fromTasks, refusedWith, acceptedAs}
+use Rattle.tasks.specs.Sheet.{task_at, with_task, after_task, tasks_from, from_tasks, refused_with, accepted_as}
 use lib.ListN.{length}
 use mathlib.Core.Path.{◌≡◌, sym, ap, ◌∙◌}
 use Prim.Native.Nat.{ℕ, suc, ◌+◌, ◌-◌, ◌≤◌, ◌<◌}
@@ -17,7 +17,7 @@ use Rattle.tasks.proofs.sheet.read_tasks.Tie as tie
 
 abbrev invariant-loop : tie.invariant-loop
 invariant-loop s from policy m n count t₀ at₀ i₀ t at i =
-    (i ≤ count) × (count ≤ 8) × (tasksFrom count 0 t₀ s at₀ ≡ tasksFrom (count - i) i t s at)
+    (i ≤ count) × (count ≤ 8) × (tasks_from count 0 t₀ s at₀ ≡ tasks_from (count - i) i t s at)
 
 abbrev decreases-loop : tie.decreases-loop
 decreases-loop s from policy m n count t₀ at₀ i₀ t at i = count - i
@@ -27,37 +27,37 @@ empty-table-requires c κs = search rules
 
 module _ (n i : ℕ) (t : Table) (s : List ℕ) (at : ℕ) where
   -- the first task that is left
-  tasks-left : i < n → tasksFrom (n - i) i t s at ≡ afterTask (taskAt s at) (λ task next. tasksFrom (n - (i + 1)) (i + 1) (withTask t i task) s next)
-  unfolding tasksFrom
-  tasks-left h = let e : n - i ≡ suc (n - (i + 1)) = omega arith in ap (λ k. tasksFrom k i t s at) e
+  tasks_left : i < n → tasks_from (n - i) i t s at ≡ after_task (task_at s at) (λ task next. tasks_from (n - (i + 1)) (i + 1) (with_task t i task) s next)
+  unfolding tasks_from
+  tasks_left h = let e : n - i ≡ suc (n - (i + 1)) = omega arith in ap (λ k. tasks_from k i t s at) e
 
-  tasks-end : n ≤ i → tasksFrom (n - i) i t s at ≡ pick (ltb at (length s)) (refusedWith 8) (acceptedAs t)
-  unfolding tasksFrom
-  tasks-end h = let e : n - i ≡ 0 = omega arith in ap (λ k. tasksFrom k i t s at) e
+  tasks_end : n ≤ i → tasks_from (n - i) i t s at ≡ pick (ltb at (length s)) (refused_with 8) (accepted_as t)
+  unfolding tasks_from
+  tasks_end h = let e : n - i ≡ 0 = omega arith in ap (λ k. tasks_from k i t s at) e
 
   -- bytes after the last task, and none
-  tasks-over : n ≤ i → at < length s → tasksFrom (n - i) i t s at ≡ refusedWith 8
-  tasks-over h l = rw (tasks-end h, lt-ltb at (length s) l)
+  tasks_over : n ≤ i → at < length s → tasks_from (n - i) i t s at ≡ refused_with 8
+  tasks_over h l = rw (tasks_end h, lt-ltb at (length s) l)
 
-  tasks-done : n ≤ i → length s ≤ at → tasksFrom (n - i) i t s at ≡ acceptedAs t
-  tasks-done h l = rw (tasks-end h, le-ltb at (length s) l)
+  tasks_done : n ≤ i → length s ≤ at → tasks_from (n - i) i t s at ≡ accepted_as t
+  tasks_done h l = rw (tasks_end h, le-ltb at (length s) l)
 
 tasks-turn :
-    (n i : ℕ) (t : Table) (s : List ℕ) (at : ℕ) (task : Task) (next : ℕ) → i < n → taskAt s at ≡ TaskRead.Read task next
-    → tasksFrom (n - i) i t s at ≡ tasksFrom (n - (i + 1)) (i + 1) (withTask t i task) s next
+    (n i : ℕ) (t : Table) (s : List ℕ) (at : ℕ) (task : Task) (next : ℕ) → i < n → task_at s at ≡ TaskRead.Read task next
+    → tasks_from (n - i) i t s at ≡ tasks_from (n - (i + 1)) (i + 1) (with_task t i task) s next
 tasks-turn n i t s at task next h e =
-    tasks-left n i t s at h ∙ ap (λ r. afterTask r (λ task next. tasksFrom (n - (i + 1)) (i + 1) (withTask t i task) s next)) e
+    tasks_left n i t s at h ∙ ap (λ r. after_task r (λ task next. tasks_from (n - (i + 1)) (i + 1) (with_task t i task) s next)) e
 
 tasks-refused :
-    (n i : ℕ) (t : Table) (s : List ℕ) (at r : ℕ) → i < n → taskAt s at ≡ TaskRead.Refused r → tasksFrom (n - i) i t s at ≡ refusedWith r
+    (n i : ℕ) (t : Table) (s : List ℕ) (at r : ℕ) → i < n → task_at s at ≡ TaskRead.Refused r → tasks_from (n - i) i t s at ≡ refused_with r
 tasks-refused n i t s at r h e =
-    tasks-left n i t s at h ∙ ap (λ r. afterTask r (λ task next. tasksFrom (n - (i + 1)) (i + 1) (withTask t i task) s next)) e
+    tasks_left n i t s at h ∙ ap (λ r. after_task r (λ task next. tasks_from (n - (i + 1)) (i + 1) (with_task t i task) s next)) e
 
 loop-holds : tie.Need-loop-init invariant-loop decreases-loop
 loop-holds c =
     let a = c.before.before.args in
     let e : a.n ≡ a.n - 0 = omega arith in
-    (omega arith, c.before.before.requires, ap (λ k. tasksFrom k 0 c.empty-table.result a.s.now a.from) e)
+    (omega arith, c.before.before.requires, ap (λ k. tasks_from k 0 c.empty-table.result a.s.now a.from) e)
 
 read-task-requires : tie.Need-read-task-requires invariant-loop decreases-loop
 read-task-requires c κs = search rules
@@ -69,7 +69,7 @@ refused-requires : tie.Need-refused-requires invariant-loop decreases-loop
 refused-requires c κs = search rules
 
 returns : tie.Need-returns invariant-loop decreases-loop
-unfolding fromTasks
+unfolding from_tasks
 returns c =
     let h = c.before.before.before.before.before.before in
     let e = sym c.before.before.before.before.read-task.ensures ∙ c.before.before.r.given.1 in
@@ -97,19 +97,19 @@ refused-requires-2 : tie.Need-refused-requires-2 invariant-loop decreases-loop
 refused-requires-2 c κs = search rules
 
 returns-2 : tie.Need-returns-2 invariant-loop decreases-loop
-unfolding fromTasks
+unfolding from_tasks
 returns-2 c =
     let h = c.before.before.before in
     let a = h.before.before.before.args in
     c.refused2.ensures
-    ∙ sym (rw h.before.empty-table.ensures at (h.loop.invariant.2 ∙ tasks-over a.n h.loop.i h.loop.t a.s.now h.loop.at c.before.before.loop-test.false c.before.if1.true))
+    ∙ sym (rw h.before.empty-table.ensures at (h.loop.invariant.2 ∙ tasks_over a.n h.loop.i h.loop.t a.s.now h.loop.at c.before.before.loop-test.false c.before.if1.true))
 
 returns-3 : tie.Need-returns-3 invariant-loop decreases-loop
-unfolding fromTasks
+unfolding from_tasks
 returns-3 c =
     let h = c.before.before in
     let a = h.before.before.before.args in
-    sym (rw h.before.empty-table.ensures at (h.loop.invariant.2 ∙ tasks-done a.n h.loop.i h.loop.t a.s.now h.loop.at c.before.loop-test.false c.if1.false))
+    sym (rw h.before.empty-table.ensures at (h.loop.invariant.2 ∙ tasks_done a.n h.loop.i h.loop.t a.s.now h.loop.at c.before.loop-test.false c.if1.false))
 
 pub read-tasks-spec : {M : Type 1} → statement M
 read-tasks-spec =

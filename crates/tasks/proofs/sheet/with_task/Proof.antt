@@ -1,5 +1,5 @@
 -- By computation. Assumes nothing.
-use Rattle.tasks.specs.Sheet.{withTask}
+use Rattle.tasks.specs.Sheet.{with_task}
 use borrow.Author.Rules.{rules}
 use Rattle.tasks.proofs.sheet.with_task.Statement.{statement}
 use Rattle.tasks.proofs.sheet.with_task.Tie as tie
@@ -14,7 +14,7 @@ element-write-next-3 : tie.Need-element-write-next-3
 element-write-next-3 c = search rules
 
 returns : tie.Need-returns
-unfolding withTask
+unfolding with_task
 returns c = search rules
 
 pub with-task-spec : {M : Type 1} → statement M

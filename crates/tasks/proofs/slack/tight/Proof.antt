@@ -2,22 +2,22 @@ use native.Mathlib.Omega.{arith}
 use Prim.Native.Nat.{◌≤◌, ◌-◌}
 use mathlib.Core.Path.{◌≡◌}
 use Rattle.lists.specs.Lists.{any}
-use Rattle.tasks.specs.Tight.{tightAt, tight}
+use Rattle.tasks.specs.Tight.{tight_at, tight}
 use Rattle.tasks.specs.Words.{state_of}
-use Rattle.lists.proofs.Turns.{any_none, any-turn, any-end}
+use Rattle.lists.proofs.Turns.{any_none, any_turn, any_end}
 use Rattle.tasks.proofs.NoMiss.{tight-word}
 use borrow.Author.Rules.{rules}
 use Rattle.tasks.proofs.slack.tight.Statement.{statement}
 use Rattle.tasks.proofs.slack.tight.Tie as tie
 
 abbrev invariant-loop : tie.invariant-loop
-invariant-loop t v found₀ i₀ found i = (i ≤ 8) × (found ≡ any i (tightAt t (state_of v)))
+invariant-loop t v found₀ i₀ found i = (i ≤ 8) × (found ≡ any i (tight_at t (state_of v)))
 
 abbrev decreases-loop : tie.decreases-loop
 decreases-loop t v found₀ i₀ found i = 8 - i
 
 loop-holds : tie.Need-loop-init invariant-loop decreases-loop
-loop-holds c = (omega arith, any_none (tightAt c.args.t1 (state_of c.args.t2)))
+loop-holds c = (omega arith, any_none (tight_at c.args.t1 (state_of c.args.t2)))
 
 mul-gap-in : tie.Need-overflow-mul-gap-in invariant-loop decreases-loop
 mul-gap-in c = search rules
@@ -70,13 +70,13 @@ loop-less c = search rules
 loop-again : tie.Need-loop-preserved invariant-loop decreases-loop
 loop-again c =
     let h = c.before.before.before.before.before.before.before.before.before.before.before in
-    (omega arith, any-turn (tightAt h.before.args.t1 (state_of h.before.args.t2)) h.loop.i h.loop.invariant.1 (rw (c.tight-job2.ensures, c.before.before.before.before.before.tight-job.ensures, c.before.before.before.before.before.before.work_in.ensures, c.before.before.before.before.before.before.before.before.before.gap-in.ensures) (tight-word h.before.args.t1 h.before.args.t2 h.loop.i (omega arith))))
+    (omega arith, any_turn (tight_at h.before.args.t1 (state_of h.before.args.t2)) h.loop.i h.loop.invariant.1 (rw (c.tight-job2.ensures, c.before.before.before.before.before.tight_job_lem.ensures, c.before.before.before.before.before.before.work_in.ensures, c.before.before.before.before.before.before.before.before.before.gap-in.ensures) (tight-word h.before.args.t1 h.before.args.t2 h.loop.i (omega arith))))
 
 returns : tie.Need-returns invariant-loop decreases-loop
 unfolding tight
 returns c =
     let h = c.before in
-    any-end (tightAt h.before.args.t1 (state_of h.before.args.t2)) h.loop.invariant.1 h.loop.invariant.0 c.loop-test.false
+    any_end (tight_at h.before.args.t1 (state_of h.before.args.t2)) h.loop.invariant.1 h.loop.invariant.0 c.loop-test.false
 
 pub tight-spec : {M : Type 1} → statement M
 tight-spec =

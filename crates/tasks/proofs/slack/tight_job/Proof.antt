@@ -1,4 +1,4 @@
-use Rattle.tasks.specs.Tight.{tightJob}
+use Rattle.tasks.specs.Tight.{tight_job}
 use borrow.Author.Rules.{rules}
 use Rattle.jobs.proofs.Signed.{back}
 use Rattle.tasks.proofs.slack.tight_job.Statement.{statement}
@@ -8,7 +8,7 @@ slack-of-requires : tie.Need-slack-of-requires
 slack-of-requires c κs = search rules
 
 returns : tie.Need-returns
-unfolding tightJob
+unfolding tight_job
 returns c = rw (back c.slack-of.result c.slack-of.type-inv, c.slack-of.ensures)
 
 pub tight-job-spec : {M : Type 1} → statement M

@@ -1,7 +1,7 @@
 use Prim.Native.Nat.{◌≤◌, ◌-◌}
 use mathlib.Core.Path.{refl}
 use Rattle.tasks.specs.Ticker.{base_at}
-use Rattle.lists.proofs.Fill.{Filled, filled-start, filled-store, filled-end}
+use Rattle.lists.proofs.Fill.{Filled, filled_start, filled_store, filled_end}
 use native.Mathlib.Omega.{arith}
 use borrow.Author.Rules.{rules}
 use Rattle.tasks.proofs.ticker.bases.Statement.{statement}
@@ -14,7 +14,7 @@ abbrev decreases-loop : tie.decreases-loop
 decreases-loop t policy out₀ i₀ out i = 8 - i
 
 loop-holds : tie.Need-loop-init invariant-loop decreases-loop
-loop-holds c = (omega arith, filled-start refl)
+loop-holds c = (omega arith, filled_start refl)
 
 element-copy-out-base-of : tie.Need-element-copy-out-base-of invariant-loop decreases-loop
 element-copy-out-base-of c = search rules
@@ -39,10 +39,10 @@ loop-less c = search rules
 
 loop-again : tie.Need-loop-preserved invariant-loop decreases-loop
 unfolding base_at
-loop-again c = (omega arith, filled-store c.before.before.before.before.loop.invariant.1 (omega arith) c.base-of.ensures)
+loop-again c = (omega arith, filled_store c.before.before.before.before.loop.invariant.1 (omega arith) c.base-of.ensures)
 
 returns : tie.Need-returns invariant-loop decreases-loop
-returns c = filled-end c.before.loop.invariant.1 c.loop-test.false
+returns c = filled_end c.before.loop.invariant.1 c.loop-test.false
 
 pub bases-spec : {M : Type 1} → statement M
 bases-spec =

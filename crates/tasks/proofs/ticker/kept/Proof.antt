@@ -4,7 +4,7 @@ use lib.ListN.{get_or}
 use native.Mathlib.Omega.{arith}
 use Rattle.lists.specs.Lists.{pick}
 use Rattle.tasks.specs.Ticker.{kept_at}
-use Rattle.lists.proofs.Fill.{Filled, filled-start, filled-store, filled-end}
+use Rattle.lists.proofs.Fill.{Filled, filled_start, filled_store, filled_end}
 use borrow.Author.Rules.{rules}
 use Rattle.tasks.proofs.ticker.kept.Statement.{statement}
 use Rattle.tasks.proofs.ticker.kept.Tie as tie
@@ -16,7 +16,7 @@ abbrev decreases-loop : tie.decreases-loop
 decreases-loop t policy stays out₀ i₀ out i = 8 - i
 
 loop-holds : tie.Need-loop-init invariant-loop decreases-loop
-loop-holds c = (omega arith, filled-start refl)
+loop-holds c = (omega arith, filled_start refl)
 
 element-copy-out-wide16 : tie.Need-element-copy-out-wide16 invariant-loop decreases-loop
 element-copy-out-wide16 c = search rules
@@ -40,11 +40,11 @@ loop-less : tie.Need-loop-smaller invariant-loop decreases-loop
 loop-less c = search rules
 
 loop-again : tie.Need-loop-preserved invariant-loop decreases-loop
-loop-again c = (omega arith, filled-store c.before.before.before.before.loop.invariant.1 (omega arith) (c.either16.ensures ∙ rw c.before.wide16.ensures.0))
+loop-again c = (omega arith, filled_store c.before.before.before.before.loop.invariant.1 (omega arith) (c.either16.ensures ∙ rw c.before.wide16.ensures.0))
 
 returns : tie.Need-returns invariant-loop decreases-loop
 unfolding kept_at
-returns c = filled-end c.before.loop.invariant.1 c.loop-test.false
+returns c = filled_end c.before.loop.invariant.1 c.loop-test.false
 
 pub kept-spec : {M : Type 1} → statement M
 kept-spec =

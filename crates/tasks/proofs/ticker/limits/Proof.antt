@@ -3,7 +3,7 @@ use mathlib.Core.Path.{refl}
 use lib.Dec.{ltb}
 use native.Mathlib.Omega.{arith}
 use Rattle.lists.specs.Lists.{pick}
-use Rattle.lists.proofs.Fill.{Filled, filled-start, filled-store, filled-end}
+use Rattle.lists.proofs.Fill.{Filled, filled_start, filled_store, filled_end}
 use borrow.Author.Rules.{rules}
 use Rattle.tasks.proofs.ticker.limits.Statement.{statement}
 use Rattle.tasks.proofs.ticker.limits.Tie as tie
@@ -18,7 +18,7 @@ cast-n : tie.Need-overflow-cast-n invariant-loop decreases-loop
 cast-n c = search rules
 
 loop-holds : tie.Need-loop-init invariant-loop decreases-loop
-loop-holds c = (omega arith, filled-start refl)
+loop-holds c = (omega arith, filled_start refl)
 
 either16-requires : tie.Need-either16-requires invariant-loop decreases-loop
 either16-requires c κs = search rules
@@ -36,10 +36,10 @@ loop-less : tie.Need-loop-smaller invariant-loop decreases-loop
 loop-less c = search rules
 
 loop-again : tie.Need-loop-preserved invariant-loop decreases-loop
-loop-again c = (omega arith, filled-store c.before.before.loop.invariant.1 (omega arith) c.either16.ensures)
+loop-again c = (omega arith, filled_store c.before.before.loop.invariant.1 (omega arith) c.either16.ensures)
 
 returns : tie.Need-returns invariant-loop decreases-loop
-returns c = filled-end c.before.loop.invariant.1 c.loop-test.false
+returns c = filled_end c.before.loop.invariant.1 c.loop-test.false
 
 pub limits-spec : {M : Type 1} → statement M
 limits-spec =

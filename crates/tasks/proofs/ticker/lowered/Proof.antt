@@ -2,9 +2,9 @@ use Prim.Native.Nat.{◌≤◌, ◌-◌}
 use mathlib.Core.Path.{refl, ap, ◌∙◌}
 use lib.ListN.{get_or}
 use Rattle.lists.specs.Lists.{pick}
-use Rattle.lists.proofs.Fill.{eight-same, Filled, filled-start, filled-store, filled-end}
+use Rattle.lists.proofs.Fill.{eight_same, Filled, filled_start, filled_store, filled_end}
 use Rattle.cores.specs.Walk.{taken}
-use Rattle.cores.proofs.WalkLaws.{served-at}
+use Rattle.cores.proofs.WalkLaws.{served_at}
 use Rattle.tasks.specs.Ticker.{lowered}
 use native.Mathlib.Omega.{arith}
 use borrow.Author.Rules.{rules}
@@ -21,7 +21,7 @@ assign-quickly-requires : tie.Need-assign-quickly-requires invariant-loop decrea
 assign-quickly-requires c κs = search rules
 
 loop-holds : tie.Need-loop-init invariant-loop decreases-loop
-loop-holds c = (omega arith, filled-start refl)
+loop-holds c = (omega arith, filled_start refl)
 
 mul-less : tie.Need-overflow-mul-less invariant-loop decreases-loop
 mul-less c = search rules
@@ -51,16 +51,16 @@ loop-less : tie.Need-loop-smaller invariant-loop decreases-loop
 loop-less c = search rules
 
 loop-again : tie.Need-loop-preserved invariant-loop decreases-loop
-loop-again c = (omega arith, filled-store c.before.before.loop.invariant.1 (omega arith) c.less.ensures)
+loop-again c = (omega arith, filled_store c.before.before.loop.invariant.1 (omega arith) c.less.ensures)
 
 returns : tie.Need-returns invariant-loop decreases-loop
 unfolding lowered
 returns c =
     let h = c.before.before in
     let a = h.before.args in
-    filled-end c.before.loop.invariant.1 c.loop-test.false
-    ∙ eight-same _ (λ i. get_or a.t2 i 0 - pick (taken a.places a.m i) 1 0)
-    (λ i b. ap (λ x. get_or a.t2 i 0 - x) (served-at a.places a.m h.assign-quickly.ensures i b))
+    filled_end c.before.loop.invariant.1 c.loop-test.false
+    ∙ eight_same _ (λ i. get_or a.t2 i 0 - pick (taken a.places a.m i) 1 0)
+    (λ i b. ap (λ x. get_or a.t2 i 0 - x) (served_at a.places a.m h.assign-quickly.ensures i b))
 
 pub lowered-spec : {M : Type 1} → statement M
 lowered-spec =

@@ -2,8 +2,8 @@ use Prim.Native.Nat.{◌≤◌, ◌-◌}
 use mathlib.Core.Path.{refl, ◌∙◌}
 use lib.ListN.{get_or}
 use Rattle.lists.specs.Lists.{eight}
-use Rattle.tasks.specs.Ticker.{place_in, placesIn}
-use Rattle.lists.proofs.Fill.{Filled, filled-start, filled-store, filled-end}
+use Rattle.tasks.specs.Ticker.{place_in, places_in}
+use Rattle.lists.proofs.Fill.{Filled, filled_start, filled_store, filled_end}
 use native.Mathlib.Omega.{arith}
 use borrow.Author.Rules.{rules}
 use Rattle.tasks.proofs.ticker.new_places.Statement.{statement}
@@ -22,7 +22,7 @@ work-mask-requires : tie.Need-work-mask-requires invariant-loop decreases-loop
 work-mask-requires c κs = search rules
 
 loop-holds : tie.Need-loop-init invariant-loop decreases-loop
-loop-holds c = (omega arith, filled-start refl)
+loop-holds c = (omega arith, filled_start refl)
 
 mul-place-in : tie.Need-overflow-mul-place-in invariant-loop decreases-loop
 mul-place-in c = search rules
@@ -58,15 +58,15 @@ loop-less : tie.Need-loop-smaller invariant-loop decreases-loop
 loop-less c = search rules
 
 loop-again : tie.Need-loop-preserved invariant-loop decreases-loop
-loop-again c = (omega arith, filled-store c.before.before.loop.invariant.1 (omega arith) c.place-in.ensures)
+loop-again c = (omega arith, filled_store c.before.before.loop.invariant.1 (omega arith) c.place_in_lem.ensures)
 
 returns : tie.Need-returns invariant-loop decreases-loop
-unfolding placesIn
+unfolding places_in
 returns c =
     let w = c.before.before.work-mask in
     let g = c.before.before.before.gap-mask in
     let a = c.before.before.before.before.args in
-    filled-end c.before.loop.invariant.1 c.loop-test.false
+    filled_end c.before.loop.invariant.1 c.loop-test.false
     ∙ (λ j. eight (λ i. place_in (g.ensures j) (w.ensures j) (get_or a.t2 i 0) (get_or a.t3 i 0) (get_or a.t4 i 0)))
 
 pub new-places-spec : {M : Type 1} → statement M

@@ -1,4 +1,4 @@
-use Rattle.tasks.specs.Ticker.{oldWord}
+use Rattle.tasks.specs.Ticker.{old_word}
 use borrow.Author.Rules.{rules}
 use Rattle.tasks.proofs.ticker.old_word.Statement.{statement}
 use Rattle.tasks.proofs.ticker.old_word.Tie as tie
@@ -13,7 +13,7 @@ add-result : tie.Need-overflow-add-result
 add-result c = search rules
 
 returns : tie.Need-returns
-unfolding oldWord
+unfolding old_word
 returns c = search rules
 
 pub old-word-spec : {M : Type 1} → statement M

@@ -2,20 +2,20 @@ use Prim.Native.Nat.{◌≤◌, ◌-◌}
 use mathlib.Core.Path.{refl}
 use lib.ListN.{get_or}
 use native.Mathlib.Omega.{arith}
-use Rattle.tasks.specs.Ticker.{oldWord}
-use Rattle.lists.proofs.Fill.{Filled, filled-start, filled-store, filled-end}
+use Rattle.tasks.specs.Ticker.{old_word}
+use Rattle.lists.proofs.Fill.{Filled, filled_start, filled_store, filled_end}
 use borrow.Author.Rules.{rules}
 use Rattle.tasks.proofs.ticker.old_words.Statement.{statement}
 use Rattle.tasks.proofs.ticker.old_words.Tie as tie
 
 abbrev invariant-loop : tie.invariant-loop
-invariant-loop v out₀ i₀ out i = (i ≤ 8) × Filled 0 (λ i. oldWord (get_or v i 0)) out i
+invariant-loop v out₀ i₀ out i = (i ≤ 8) × Filled 0 (λ i. old_word (get_or v i 0)) out i
 
 abbrev decreases-loop : tie.decreases-loop
 decreases-loop v out₀ i₀ out i = 8 - i
 
 loop-holds : tie.Need-loop-init invariant-loop decreases-loop
-loop-holds c = (omega arith, filled-start refl)
+loop-holds c = (omega arith, filled_start refl)
 
 mul-old-word : tie.Need-overflow-mul-old-word invariant-loop decreases-loop
 mul-old-word c = search rules
@@ -39,10 +39,10 @@ loop-less : tie.Need-loop-smaller invariant-loop decreases-loop
 loop-less c = search rules
 
 loop-again : tie.Need-loop-preserved invariant-loop decreases-loop
-loop-again c = (omega arith, filled-store c.before.before.loop.invariant.1 (omega arith) c.old-word.ensures)
+loop-again c = (omega arith, filled_store c.before.before.loop.invariant.1 (omega arith) c.old-word.ensures)
 
 returns : tie.Need-returns invariant-loop decreases-loop
-returns c = filled-end c.before.loop.invariant.1 c.loop-test.false
+returns c = filled_end c.before.loop.invariant.1 c.loop-test.false
 
 pub old-words-spec : {M : Type 1} → statement M
 old-words-spec =

@@ -5,7 +5,7 @@ use Rattle.lists.specs.Lists.{any}
 use Rattle.tasks.specs.State.{late}
 use Rattle.tasks.specs.Tick.{missed}
 use Rattle.tasks.specs.Words.{state_of}
-use Rattle.lists.proofs.Turns.{any_none, any-turn, any-end}
+use Rattle.lists.proofs.Turns.{any_none, any_turn, any_end}
 use Rattle.tasks.proofs.InWords.{late-word}
 use borrow.Author.Rules.{rules}
 use Rattle.tasks.proofs.words.misses.Statement.{statement}
@@ -56,13 +56,13 @@ loop-less c = search rules
 loop-again : tie.Need-loop-preserved invariant-loop decreases-loop
 loop-again c =
     let h = c.before.before.before.before.before.before in
-    (omega arith, any-turn (late h.before.args.t1 (state_of h.before.args.t2)) h.loop.i h.loop.invariant.1 (rw (c.late-job.ensures, c.before.gap-in.ensures, c.before.before.before.before.work_in.ensures) (late-word h.before.args.t2 h.loop.i (omega arith) h.before.args.t1)))
+    (omega arith, any_turn (late h.before.args.t1 (state_of h.before.args.t2)) h.loop.i h.loop.invariant.1 (rw (c.late-job.ensures, c.before.gap-in.ensures, c.before.before.before.before.work_in.ensures) (late-word h.before.args.t2 h.loop.i (omega arith) h.before.args.t1)))
 
 returns : tie.Need-returns invariant-loop decreases-loop
 unfolding missed
 returns c =
     let h = c.before in
-    any-end (late h.before.args.t1 (state_of h.before.args.t2)) h.loop.invariant.1 h.loop.invariant.0 c.loop-test.false
+    any_end (late h.before.args.t1 (state_of h.before.args.t2)) h.loop.invariant.1 h.loop.invariant.0 c.loop-test.false
 
 pub misses-spec : {M : Type 1} → statement M
 misses-spec =

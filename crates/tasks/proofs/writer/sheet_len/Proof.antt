@@ -1,5 +1,5 @@
 -- The lengths of the parts add up. Assumes nothing.
-use Rattle.tasks.specs.Sheet.{sheetBytes}
+use Rattle.tasks.specs.Sheet.{sheet_bytes}
 use lib.ListN.{length-append}
 use native.Mathlib.Omega.{arith}
 use borrow.Author.Rules.{rules}
@@ -34,7 +34,7 @@ add-result-4 : tie.Need-overflow-add-result-4
 add-result-4 c = search rules
 
 returns : tie.Need-returns
-unfolding sheetBytes
+unfolding sheet_bytes
 returns c = simp length-append (omega arith)
 
 pub sheet-len-spec : {M : Type 1} → statement M

@@ -1,5 +1,5 @@
 -- The lengths of the three numbers add up. Assumes nothing.
-use Rattle.tasks.specs.Sheet.{taskBytes}
+use Rattle.tasks.specs.Sheet.{task_bytes}
 use lib.ListN.{length-append}
 use native.Mathlib.Omega.{arith}
 use borrow.Author.Rules.{rules}
@@ -31,7 +31,7 @@ add-result-2 : tie.Need-overflow-add-result-2
 add-result-2 c = search rules
 
 returns : tie.Need-returns
-unfolding taskBytes
+unfolding task_bytes
 returns c =
     (simp length-append (omega arith), omega arith)
 

@@ -1,5 +1,5 @@
 -- The three ways in which a writing ends. Assumes nothing.
-use Rattle.tasks.proofs.Sheets.{write-fault, write-short, write_done}
+use Rattle.tasks.proofs.Sheets.{write_fault, write_short, write_done}
 use Rattle.tasks.proofs.Tables.{valid}
 use Prim.Native.Nat.{ℕ, ◌≤◌}
 use mathlib.Core.Path.{◌≡◌, ◌∙◌}
@@ -18,7 +18,7 @@ fault-requires c κs = search rules
 returns : tie.Need-returns
 returns c =
     let e = c.before.fault.ensures in
-    let w = write-fault c.before.before.before.args.t c.before.before.before.args.out.now (rw e at c.if1.true) in
+    let w = write_fault c.before.before.before.args.t c.before.before.before.args.out.now (rw e at c.if1.true) in
     (rw e w.0, w.1)
 
 sheet-len-requires : tie.Need-sheet-len-requires
@@ -29,7 +29,7 @@ sheet-len-requires c κs =
 returns-2 : tie.Need-returns-2
 returns-2 c =
     let s = c.before.before.before.before.before in
-    write-short s.args.t s.args.out.now (none_left c.before.before.before.fault.ensures c.before.before.if1.false) (rw c.before.sheet-len.ensures at c.if2.true)
+    write_short s.args.t s.args.out.now (none_left c.before.before.before.fault.ensures c.before.before.if1.false) (rw c.before.sheet-len.ensures at c.if2.true)
 
 put-sheet-requires : tie.Need-put-sheet-requires
 put-sheet-requires c κs =

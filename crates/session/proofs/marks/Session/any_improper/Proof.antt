@@ -1,21 +1,21 @@
 use Prim.Native.Nat.{◌≤◌, ◌-◌}
 use mathlib.Core.Path.{◌≡◌}
 use Rattle.lists.specs.Lists.{any}
-use Rattle.session.specs.Session.{improperMark}
-use Rattle.lists.proofs.Turns.{any_none, any-turn, any-end}
+use Rattle.session.specs.Session.{improper_mark}
+use Rattle.lists.proofs.Turns.{any_none, any_turn, any_end}
 use native.Mathlib.Omega.{arith}
 use borrow.Author.Rules.{rules}
 use Rattle.session.proofs.marks.Session.any_improper.Statement.{statement}
 use Rattle.session.proofs.marks.Session.any_improper.Tie as tie
 
 abbrev invariant-loop : tie.invariant-loop
-invariant-loop self t found₀ i₀ found i = (i ≤ 8) × (found ≡ any i (improperMark t self))
+invariant-loop self t found₀ i₀ found i = (i ≤ 8) × (found ≡ any i (improper_mark t self))
 
 abbrev decreases-loop : tie.decreases-loop
 decreases-loop self t found₀ i₀ found i = 8 - i
 
 loop-holds : tie.Need-loop-init invariant-loop decreases-loop
-loop-holds c = (omega arith, any_none (improperMark c.args.t c.args.self))
+loop-holds c = (omega arith, any_none (improper_mark c.args.t c.args.self))
 
 improper-mark-requires : tie.Need-improper-mark-requires invariant-loop decreases-loop
 improper-mark-requires c κs = search rules
@@ -29,12 +29,12 @@ loop-less c = search rules
 loop-again : tie.Need-loop-preserved invariant-loop decreases-loop
 loop-again c =
     let h = c.before.before in
-    (omega arith, any-turn (improperMark h.before.args.t h.before.args.self) h.loop.i h.loop.invariant.1 c.improper-mark.ensures)
+    (omega arith, any_turn (improper_mark h.before.args.t h.before.args.self) h.loop.i h.loop.invariant.1 c.improper-mark.ensures)
 
 returns : tie.Need-returns invariant-loop decreases-loop
 returns c =
     let h = c.before in
-    any-end (improperMark h.before.args.t h.before.args.self) h.loop.invariant.1 h.loop.invariant.0 c.loop-test.false
+    any_end (improper_mark h.before.args.t h.before.args.self) h.loop.invariant.1 h.loop.invariant.0 c.loop-test.false
 
 pub any-improper-spec : {M : Type 1} → statement M
 any-improper-spec =

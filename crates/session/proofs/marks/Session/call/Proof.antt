@@ -1,5 +1,5 @@
 use mathlib.Core.Path.{ap, ◌∙◌}
-use Rattle.session.specs.Session.{withoutState}
+use Rattle.session.specs.Session.{without_state}
 use Rattle.session.proofs.CallLaws.{step_is, called_is, call-told}
 use borrow.Author.Rules.{rules}
 use Rattle.session.proofs.marks.Session.call.Statement.{statement}
@@ -30,7 +30,7 @@ returns : tie.Need-returns
 returns c =
     let a = c.before.before.before.before.before.args in
     call-told a.t a.self c.before.before.before.call.given.1
-    (c.without-state.ensures ∙ ap withoutState (step_is c.before.step.ensures))
+    (c.without-state.ensures ∙ ap without_state (step_is c.before.step.ensures))
 
 returns-2 : tie.Need-returns-2
 returns-2 c =

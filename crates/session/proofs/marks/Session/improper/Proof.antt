@@ -1,4 +1,4 @@
-use Rattle.session.specs.Session.{improperSession}
+use Rattle.session.specs.Session.{improper_session}
 use borrow.Author.Rules.{rules}
 use Rattle.session.proofs.marks.Session.improper.Statement.{statement}
 use Rattle.session.proofs.marks.Session.improper.Tie as tie
@@ -10,7 +10,7 @@ any-improper-requires : tie.Need-any-improper-requires
 any-improper-requires c κs = search rules
 
 returns : tie.Need-returns
-unfolding improperSession
+unfolding improper_session
 returns c = cc
 
 pub improper-spec : {M : Type 1} → statement M

@@ -1,9 +1,9 @@
 use Prim.Native.Nat.{◌-◌}
 use mathlib.Core.Path.{◌≡◌, sym, ◌∙◌}
 use lib.ListN.{length}
-use Rattle.lists.proofs.Picks.{pick-in, pick_no}
-use Rattle.session.specs.Session.{markAt}
-use Rattle.session.proofs.MarkLaws.{within, length-mapped, any-default}
+use Rattle.lists.proofs.Picks.{pick_in, pick_no}
+use Rattle.session.specs.Session.{mark_at}
+use Rattle.session.proofs.MarkLaws.{within, length_mapped, any_default}
 use native.Mathlib.Omega.{arith}
 use borrow.Author.Rules.{rules}
 use Rattle.session.proofs.marks.Session.mark.Statement.{statement}
@@ -16,8 +16,8 @@ start-requires : tie.Need-start-requires
 start-requires c κs = search rules
 
 returns : tie.Need-returns
-unfolding markAt
-returns c = pick-in _ (sym c.before.before.outside.ensures ∙ c.before.if1.true) (rw c.start.ensures)
+unfolding mark_at
+returns c = pick_in _ (sym c.before.before.outside.ensures ∙ c.before.if1.true) (rw c.start.ensures)
 
 sub-i : tie.Need-overflow-sub-i
 sub-i c = omega (arith, within c.before.before.args.k (sym c.before.outside.ensures ∙ c.if1.false))
@@ -32,12 +32,12 @@ element-copy-out-result : tie.Need-element-copy-out-result
 element-copy-out-result c = omega (arith, within c.before.before.args.k (sym c.before.outside.ensures ∙ c.if1.false))
 
 returns-2 : tie.Need-returns-2
-unfolding markAt
+unfolding mark_at
 returns-2 c =
     let a = c.before.before.before.args in
     let e = sym c.before.before.outside.ensures ∙ c.before.if1.false in
-    let len : length a.t1.marks ≡ 8 = search (rules, length-mapped) in
-    pick_no _ e (any-default _ _ a.t1.marks (a.k - 1) (omega (arith, within a.k e)))
+    let len : length a.t1.marks ≡ 8 = search (rules, length_mapped) in
+    pick_no _ e (any_default _ _ a.t1.marks (a.k - 1) (omega (arith, within a.k e)))
 
 pub mark_spec : {M : Type 1} → statement M
 mark_spec =

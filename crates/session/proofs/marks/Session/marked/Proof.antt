@@ -1,7 +1,7 @@
 use mathlib.Core.Path.{sym, ap, ◌∙◌}
 use mathlib.Core.Bool.{true}
 use Rattle.session.specs.Session.{empty, marked}
-use Rattle.session.proofs.MarkLaws.{within, length-mapped, stores-none, stores_one}
+use Rattle.session.proofs.MarkLaws.{within, length_mapped, stores_none, stores_one}
 use native.Mathlib.Omega.{arith}
 use borrow.Author.Rules.{rules}
 use Rattle.session.proofs.marks.Session.marked.Statement.{statement}
@@ -15,7 +15,7 @@ unfolding marked
 returns c =
     let x = c.before.before.args.self in
     ap (λ marks. record { present = x.present; marks = marks })
-    (stores-none empty (record { set = true; state = x.present }) x.marks (search (rules, length-mapped)) c.before.before.args.k (sym c.before.outside.ensures ∙ c.if1.true))
+    (stores_none empty (record { set = true; state = x.present }) x.marks (search (rules, length_mapped)) c.before.before.args.k (sym c.before.outside.ensures ∙ c.if1.true))
 
 sub-i : tie.Need-overflow-sub-i
 sub-i c = omega (arith, within c.before.before.args.k (sym c.before.outside.ensures ∙ c.if1.false))
@@ -41,7 +41,7 @@ returns-2 c =
     let x = h.before.args.self in
     rw c.mark_of.ensures
     (ap (λ marks. record { present = x.present; marks = marks })
-    (stores_one empty (record { set = true; state = x.present }) x.marks (search (rules, length-mapped)) h.before.args.k (sym h.outside.ensures ∙ c.before.before.if1.false)))
+    (stores_one empty (record { set = true; state = x.present }) x.marks (search (rules, length_mapped)) h.before.args.k (sym h.outside.ensures ∙ c.before.before.if1.false)))
 
 pub marked-spec : {M : Type 1} → statement M
 marked-spec =

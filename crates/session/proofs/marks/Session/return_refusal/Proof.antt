@@ -1,5 +1,5 @@
 use mathlib.Core.Path.{ap, ◌∙◌}
-use Rattle.session.specs.Session.{firstOf, returnRefusal}
+use Rattle.session.specs.Session.{first_of, return_refusal}
 use borrow.Author.Rules.{rules}
 use Rattle.session.proofs.marks.Session.return_refusal.Statement.{statement}
 use Rattle.session.proofs.marks.Session.return_refusal.Tie as tie
@@ -20,11 +20,11 @@ first-of-requires-2 : tie.Need-first-of-requires-2
 first-of-requires-2 c κs = search rules
 
 returns : tie.Need-returns
-unfolding returnRefusal
+unfolding return_refusal
 returns c =
     let h = c.before.before.before in
     rw (← c.before.before.fault.ensures, ← h.before.beyond.ensures, ← h.never-set.ensures)
-    (c.first-of2.ensures ∙ ap (firstOf c.before.before.fault.result) c.before.first_of.ensures)
+    (c.first-of2.ensures ∙ ap (first_of c.before.before.fault.result) c.before.first_of.ensures)
 
 pub return-refusal-spec : {M : Type 1} → statement M
 return-refusal-spec =

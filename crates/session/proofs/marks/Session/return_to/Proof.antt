@@ -1,5 +1,5 @@
 use Rattle.session.specs.Session.{returned}
-use Rattle.session.proofs.CallLaws.{called-told}
+use Rattle.session.proofs.CallLaws.{called_told}
 use borrow.Author.Rules.{rules}
 use Rattle.session.proofs.marks.Session.return_to.Statement.{statement}
 use Rattle.session.proofs.marks.Session.return_to.Tie as tie
@@ -20,7 +20,7 @@ returns : tie.Need-returns
 unfolding returned
 returns c =
     let h = c.before.before in
-    called-told (rw (← h.before.return-refusal.ensures, ← h.mark.ensures, ← c.before.at_mark.ensures) c.unless-refused.ensures)
+    called_told (rw (← h.before.return-refusal.ensures, ← h.mark.ensures, ← c.before.at_mark.ensures) c.unless_refused_lem.ensures)
 
 pub return-to-spec : {M : Type 1} → statement M
 return-to-spec =

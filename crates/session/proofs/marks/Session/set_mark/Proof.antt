@@ -1,5 +1,5 @@
-use Rattle.session.specs.Session.{markSet}
-use Rattle.session.proofs.CallLaws.{called-told}
+use Rattle.session.specs.Session.{mark_set}
+use Rattle.session.proofs.CallLaws.{called_told}
 use borrow.Author.Rules.{rules}
 use Rattle.session.proofs.marks.Session.set_mark.Statement.{statement}
 use Rattle.session.proofs.marks.Session.set_mark.Tie as tie
@@ -14,8 +14,8 @@ unless-refused-requires : tie.Need-unless-refused-requires
 unless-refused-requires c κs = search rules
 
 returns : tie.Need-returns
-unfolding markSet
-returns c = called-told (rw (← c.before.before.set-refusal.ensures, ← c.before.marked.ensures) c.unless-refused.ensures)
+unfolding mark_set
+returns c = called_told (rw (← c.before.before.set-refusal.ensures, ← c.before.marked.ensures) c.unless_refused_lem.ensures)
 
 pub set-mark-spec : {M : Type 1} → statement M
 set-mark-spec =

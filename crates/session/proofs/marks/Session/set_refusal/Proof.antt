@@ -1,4 +1,4 @@
-use Rattle.session.specs.Session.{setRefusal}
+use Rattle.session.specs.Session.{set_refusal}
 use borrow.Author.Rules.{rules}
 use Rattle.session.proofs.marks.Session.set_refusal.Statement.{statement}
 use Rattle.session.proofs.marks.Session.set_refusal.Tie as tie
@@ -13,7 +13,7 @@ first-of-requires : tie.Need-first-of-requires
 first-of-requires c κs = search rules
 
 returns : tie.Need-returns
-unfolding setRefusal
+unfolding set_refusal
 returns c = rw (← c.before.before.fault.ensures, ← c.before.beyond.ensures) c.first_of.ensures
 
 pub set-refusal-spec : {M : Type 1} → statement M

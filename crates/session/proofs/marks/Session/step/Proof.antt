@@ -23,19 +23,19 @@ returns : tie.Need-returns
 returns c =
     let h = c.before.before.before.before in
     let a = h.before.args in
-    step-told a.t a.self a.mask h.step-tick.ensures c.enum_told.given.1 c.before.before.moved.ensures
+    step-told a.t a.self a.mask h.step_tick_lem.ensures c.enum_told.given.1 c.before.before.moved.ensures
 
 returns-2 : tie.Need-returns-2
 returns-2 c =
     let h = c.before.before.before.before in
     let a = h.before.args in
-    step-told a.t a.self a.mask h.step-tick.ensures c.enum-told2.given.1 refl
+    step-told a.t a.self a.mask h.step_tick_lem.ensures c.enum-told2.given.1 refl
 
 returns-3 : tie.Need-returns-3
 returns-3 c =
     let h = c.before.before.before.before in
     let a = h.before.args in
-    step-told a.t a.self a.mask h.step-tick.ensures c.enum-told3.given.1 refl
+    step-told a.t a.self a.mask h.step_tick_lem.ensures c.enum-told3.given.1 refl
 
 pub step_spec : {M : Type 1} → statement M
 step_spec =

@@ -5,11 +5,11 @@ use mathlib.Core.Bool.{false}
 use lib.Dec.{ltb}
 use lib.ListN.{get_or}
 use Rattle.lists.specs.Lists.{eight}
-use Rattle.lists.proofs.Fill.{eight-same, Filled, filled-start, filled-store, filled-end}
+use Rattle.lists.proofs.Fill.{eight_same, Filled, filled_start, filled_store, filled_end}
 use Rattle.cores.specs.Walk.{taken}
-use Rattle.cores.proofs.WalkLaws.{served-test}
+use Rattle.cores.proofs.WalkLaws.{served_test}
 use Rattle.tasks.specs.Places.{place}
-use Rattle.tasks.proofs.Place.{taken-chosen, places-placed}
+use Rattle.tasks.proofs.Place.{taken_chosen, places_placed}
 use native.Mathlib.Omega.{arith}
 use borrow.Author.Rules.{rules}
 use Rattle.tasks.proofs.state.State.choose.Statement.{statement}
@@ -31,7 +31,7 @@ assign-requires : tie.Need-assign-requires invariant-loop decreases-loop
 assign-requires c κs = search rules
 
 loop-holds : tie.Need-loop-init invariant-loop decreases-loop
-loop-holds c = (omega arith, filled-start refl)
+loop-holds c = (omega arith, filled_start refl)
 
 mul-run : tie.Need-overflow-mul-run invariant-loop decreases-loop
 mul-run c = search rules
@@ -49,7 +49,7 @@ loop-less : tie.Need-loop-smaller invariant-loop decreases-loop
 loop-less c = search rules
 
 loop-again : tie.Need-loop-preserved invariant-loop decreases-loop
-loop-again c = (omega arith, filled-store c.before.loop.invariant.1 (omega arith) refl)
+loop-again c = (omega arith, filled_store c.before.loop.invariant.1 (omega arith) refl)
 
 returns : tie.Need-returns invariant-loop decreases-loop
 returns c =
@@ -58,9 +58,9 @@ returns c =
     let t = first.args.t in
     let s = first.args.self in
     let is = rw (walk.before.wide16.ensures.0, walk.before.before.places.ensures) at walk.assign.ensures in
-    filled-end c.before.loop.invariant.1 c.loop-test.false
-    ∙ eight-same _ (taken (eight (place t s)) t.m) (served-test (eight (place t s)) t.m is)
-    ∙ taken-chosen t s (eight (place t s)) (places-placed t s)
+    filled_end c.before.loop.invariant.1 c.loop-test.false
+    ∙ eight_same _ (taken (eight (place t s)) t.m) (served_test (eight (place t s)) t.m is)
+    ∙ taken_chosen t s (eight (place t s)) (places_placed t s)
 
 pub choose_spec : {M : Type 1} → statement M
 choose_spec =

@@ -3,7 +3,7 @@ use Prim.Native.Nat.{◌≤◌, ◌-◌}
 use mathlib.Core.Path.{◌≡◌}
 use Rattle.lists.specs.Lists.{count}
 use Rattle.tasks.specs.State.{keeps}
-use Rattle.lists.proofs.Turns.{count_none, count_turn, count-end, count_room}
+use Rattle.lists.proofs.Turns.{count_none, count_turn, count_end, count_room}
 use borrow.Author.Rules.{rules}
 use Rattle.tasks.proofs.state.State.count_kept.Statement.{statement}
 use Rattle.tasks.proofs.state.State.count_kept.Tie as tie
@@ -42,7 +42,7 @@ loop-again c =
 returns : tie.Need-returns invariant-loop decreases-loop
 returns c =
     let h = c.before in
-    count-end (keeps h.before.args.t h.before.args.self) h.loop.invariant.1 h.loop.invariant.0 c.loop-test.false
+    count_end (keeps h.before.args.t h.before.args.self) h.loop.invariant.1 h.loop.invariant.0 c.loop-test.false
 
 pub count-kept-spec : {M : Type 1} → statement M
 count-kept-spec =

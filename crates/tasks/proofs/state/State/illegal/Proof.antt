@@ -2,20 +2,20 @@ use native.Mathlib.Omega.{arith}
 use Prim.Native.Nat.{◌≤◌, ◌-◌}
 use mathlib.Core.Path.{◌≡◌}
 use Rattle.lists.specs.Lists.{any}
-use Rattle.tasks.specs.Tick.{illegalAt, illegal}
-use Rattle.lists.proofs.Turns.{any_none, any-turn, any-end}
+use Rattle.tasks.specs.Tick.{illegal_at, illegal}
+use Rattle.lists.proofs.Turns.{any_none, any_turn, any_end}
 use borrow.Author.Rules.{rules}
 use Rattle.tasks.proofs.state.State.illegal.Statement.{statement}
 use Rattle.tasks.proofs.state.State.illegal.Tie as tie
 
 abbrev invariant-loop : tie.invariant-loop
-invariant-loop self t mask found₀ i₀ found i = (i ≤ 8) × (found ≡ any i (illegalAt t self mask))
+invariant-loop self t mask found₀ i₀ found i = (i ≤ 8) × (found ≡ any i (illegal_at t self mask))
 
 abbrev decreases-loop : tie.decreases-loop
 decreases-loop self t mask found₀ i₀ found i = 8 - i
 
 loop-holds : tie.Need-loop-init invariant-loop decreases-loop
-loop-holds c = (omega arith, any_none (illegalAt c.args.t c.args.self c.args.mask))
+loop-holds c = (omega arith, any_none (illegal_at c.args.t c.args.self c.args.mask))
 
 illegal-at-requires : tie.Need-illegal-at-requires invariant-loop decreases-loop
 illegal-at-requires c κs = search rules
@@ -29,13 +29,13 @@ loop-less c = search rules
 loop-again : tie.Need-loop-preserved invariant-loop decreases-loop
 loop-again c =
     let h = c.before.before in
-    (omega arith, any-turn (illegalAt h.before.args.t h.before.args.self h.before.args.mask) h.loop.i h.loop.invariant.1 c.illegal-at.ensures)
+    (omega arith, any_turn (illegal_at h.before.args.t h.before.args.self h.before.args.mask) h.loop.i h.loop.invariant.1 c.illegal-at.ensures)
 
 returns : tie.Need-returns invariant-loop decreases-loop
 unfolding illegal
 returns c =
     let h = c.before in
-    any-end (illegalAt h.before.args.t h.before.args.self h.before.args.mask) h.loop.invariant.1 h.loop.invariant.0 c.loop-test.false
+    any_end (illegal_at h.before.args.t h.before.args.self h.before.args.mask) h.loop.invariant.1 h.loop.invariant.0 c.loop-test.false
 
 pub illegal-spec : {M : Type 1} → statement M
 illegal-spec =

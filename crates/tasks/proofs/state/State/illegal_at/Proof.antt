@@ -1,4 +1,4 @@
-use Rattle.tasks.specs.Tick.{illegalAt}
+use Rattle.tasks.specs.Tick.{illegal_at}
 use borrow.Author.Rules.{rules}
 use Rattle.tasks.proofs.state.State.illegal_at.Statement.{statement}
 use Rattle.tasks.proofs.state.State.illegal_at.Tie as tie
@@ -13,7 +13,7 @@ has-bit-requires : tie.Need-has-bit-requires
 has-bit-requires c κs = search rules
 
 returns : tie.Need-returns
-unfolding illegalAt
+unfolding illegal_at
 returns c = cc
 
 pub illegal-at-spec : {M : Type 1} → statement M

@@ -1,4 +1,4 @@
-use Rattle.tasks.specs.State.{improperAt}
+use Rattle.tasks.specs.State.{improper_at}
 use borrow.Author.Rules.{rules}
 use Rattle.tasks.proofs.state.State.improper_at.Statement.{statement}
 use Rattle.tasks.proofs.state.State.improper_at.Tie as tie
@@ -22,7 +22,7 @@ late-requires : tie.Need-late-requires
 late-requires c κs = search rules
 
 returns : tie.Need-returns
-unfolding improperAt
+unfolding improper_at
 returns c = rw c.late.ensures
 
 pub improper-at-spec : {M : Type 1} → statement M

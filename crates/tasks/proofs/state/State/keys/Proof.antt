@@ -1,7 +1,7 @@
 use Prim.Native.Nat.{◌≤◌, ◌-◌}
 use mathlib.Core.Path.{refl, ◌∙◌}
 use lib.IntN.{pos}
-use Rattle.lists.proofs.Fill.{Filled, filled-start, filled-store, filled-end}
+use Rattle.lists.proofs.Fill.{Filled, filled_start, filled_store, filled_end}
 use Rattle.tasks.specs.Tick.{key}
 use Rattle.jobs.proofs.Signed.{back}
 use native.Mathlib.Omega.{arith}
@@ -16,7 +16,7 @@ abbrev decreases-loop : tie.decreases-loop
 decreases-loop self t keys₀ i₀ keys i = 8 - i
 
 loop-holds : tie.Need-loop-init invariant-loop decreases-loop
-loop-holds c = (omega arith, filled-start refl)
+loop-holds c = (omega arith, filled_start refl)
 
 key-requires : tie.Need-key-requires invariant-loop decreases-loop
 key-requires c κs = search rules
@@ -34,10 +34,10 @@ loop-less : tie.Need-loop-smaller invariant-loop decreases-loop
 loop-less c = search rules
 
 loop-again : tie.Need-loop-preserved invariant-loop decreases-loop
-loop-again c = (omega arith, filled-store c.before.before.loop.invariant.1 (omega arith) (back c.key.result c.key.type-inv ∙ c.key.ensures))
+loop-again c = (omega arith, filled_store c.before.before.loop.invariant.1 (omega arith) (back c.key.result c.key.type-inv ∙ c.key.ensures))
 
 returns : tie.Need-returns invariant-loop decreases-loop
-returns c = filled-end c.before.loop.invariant.1 c.loop-test.false
+returns c = filled_end c.before.loop.invariant.1 c.loop-test.false
 
 pub keys-spec : {M : Type 1} → statement M
 keys-spec =

@@ -4,7 +4,7 @@ use mathlib.Core.Path.{◌≡◌}
 use Rattle.lists.specs.Lists.{any}
 use Rattle.tasks.specs.State.{late}
 use Rattle.tasks.specs.Tick.{missed}
-use Rattle.lists.proofs.Turns.{any_none, any-turn, any-end}
+use Rattle.lists.proofs.Turns.{any_none, any_turn, any_end}
 use borrow.Author.Rules.{rules}
 use Rattle.tasks.proofs.state.State.missed.Statement.{statement}
 use Rattle.tasks.proofs.state.State.missed.Tie as tie
@@ -30,13 +30,13 @@ loop-less c = search rules
 loop-again : tie.Need-loop-preserved invariant-loop decreases-loop
 loop-again c =
     let h = c.before.before in
-    (omega arith, any-turn (late h.before.args.t h.before.args.self) h.loop.i h.loop.invariant.1 c.late.ensures)
+    (omega arith, any_turn (late h.before.args.t h.before.args.self) h.loop.i h.loop.invariant.1 c.late.ensures)
 
 returns : tie.Need-returns invariant-loop decreases-loop
 unfolding missed
 returns c =
     let h = c.before in
-    any-end (late h.before.args.t h.before.args.self) h.loop.invariant.1 h.loop.invariant.0 c.loop-test.false
+    any_end (late h.before.args.t h.before.args.self) h.loop.invariant.1 h.loop.invariant.0 c.loop-test.false
 
 pub missed-spec : {M : Type 1} → statement M
 missed-spec =

@@ -3,7 +3,7 @@ use Prim.Native.Nat.{◌≤◌, ◌-◌, ◌/◌, ◌%◌}
 use mathlib.Core.Path.{refl}
 use lib.ListN.{get_or}
 use Rattle.tasks.specs.Words.{state_of}
-use Rattle.lists.proofs.Fill.{Filled, filled-start, filled-store, filled-end}
+use Rattle.lists.proofs.Fill.{Filled, filled_start, filled_store, filled_end}
 use borrow.Author.Rules.{rules}
 use Rattle.tasks.proofs.state.State.of_words.Statement.{statement}
 use Rattle.tasks.proofs.state.State.of_words.Tie as tie
@@ -15,7 +15,7 @@ abbrev decreases-loop : tie.decreases-loop
 decreases-loop v c₀ p₀ i₀ c p i = 8 - i
 
 loop-holds : tie.Need-loop-init invariant-loop decreases-loop
-loop-holds c = (omega arith, filled-start refl, filled-start refl)
+loop-holds c = (omega arith, filled_start refl, filled_start refl)
 
 mul-work-in : tie.Need-overflow-mul-work-in invariant-loop decreases-loop
 mul-work-in c = search rules
@@ -50,13 +50,13 @@ loop-less c = search rules
 loop-again : tie.Need-loop-preserved invariant-loop decreases-loop
 loop-again c =
     let inv = c.before.before.before.loop.invariant in
-    (omega arith, filled-store inv.1 (omega arith) c.before.work_in.ensures, filled-store inv.2 (omega arith) c.gap-in.ensures)
+    (omega arith, filled_store inv.1 (omega arith) c.before.work_in.ensures, filled_store inv.2 (omega arith) c.gap-in.ensures)
 
 returns : tie.Need-returns invariant-loop decreases-loop
 unfolding state_of
 returns c =
     let inv = c.before.loop.invariant in
-    λ k. record { c = filled-end inv.1 (omega arith) k; p = filled-end inv.2 (omega arith) k }
+    λ k. record { c = filled_end inv.1 (omega arith) k; p = filled_end inv.2 (omega arith) k }
 
 pub of-words-spec : {M : Type 1} → statement M
 of-words-spec =

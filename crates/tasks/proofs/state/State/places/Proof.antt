@@ -2,9 +2,9 @@
 use Prim.Native.Nat.{◌≤◌, ◌-◌}
 use mathlib.Core.Path.{◌≡◌, refl, ◌∙◌}
 use Rattle.lists.specs.Lists.{eight}
-use Rattle.lists.proofs.Fill.{Filled, filled-start, filled-store, filled-end}
+use Rattle.lists.proofs.Fill.{Filled, filled_start, filled_store, filled_end}
 use Rattle.tasks.specs.Tick.{key, age}
-use Rattle.tasks.specs.Places.{place, earlierIn}
+use Rattle.tasks.specs.Places.{place, earlier_in}
 use Rattle.tasks.proofs.Place.{earlier-counted}
 use native.Mathlib.Omega.{arith}
 use borrow.Author.Rules.{rules}
@@ -13,7 +13,7 @@ use Rattle.tasks.proofs.state.State.places.Tie as tie
 
 abbrev invariant-loop : tie.invariant-loop
 invariant-loop t self earlier places₀ i₀ places i =
-    (i ≤ 8) × (earlier ≡ eight (earlierIn (eight (key t self)) (eight (age t self)) 8)) × Filled 0 (place t self) places i
+    (i ≤ 8) × (earlier ≡ eight (earlier_in (eight (key t self)) (eight (age t self)) 8)) × Filled 0 (place t self) places i
 
 abbrev decreases-loop : tie.decreases-loop
 decreases-loop t self earlier places₀ i₀ places i = 8 - i
@@ -28,7 +28,7 @@ count-earlier-requires : tie.Need-count-earlier-requires invariant-loop decrease
 count-earlier-requires c κs = search rules
 
 loop-holds : tie.Need-loop-init invariant-loop decreases-loop
-loop-holds c = (omega arith, rw (c.count-earlier.ensures, c.before.ages.ensures, c.before.before.keys.ensures), filled-start refl)
+loop-holds c = (omega arith, rw (c.count-earlier.ensures, c.before.ages.ensures, c.before.before.keys.ensures), filled_start refl)
 
 element-copy-out-c : tie.Need-element-copy-out-c invariant-loop decreases-loop
 element-copy-out-c c = search rules
@@ -64,10 +64,10 @@ unfolding place
 loop-again c =
     let h = c.before.before.before.before.loop in
     let is = (earlier-counted _ _ h.invariant.1 h.i (omega arith)).0 in
-    (omega arith, h.invariant.1, filled-store h.invariant.2 (omega arith) (c.place_of.ensures ∙ rw (is, c.before.keeps.ensures)))
+    (omega arith, h.invariant.1, filled_store h.invariant.2 (omega arith) (c.place_of.ensures ∙ rw (is, c.before.keeps.ensures)))
 
 returns : tie.Need-returns invariant-loop decreases-loop
-returns c = filled-end c.before.loop.invariant.2 c.loop-test.false
+returns c = filled_end c.before.loop.invariant.2 c.loop-test.false
 
 pub places-spec : {M : Type 1} → statement M
 places-spec =

@@ -1,21 +1,21 @@
 use Prim.Native.Nat.{◌≤◌, ◌-◌}
 use mathlib.Core.Path.{refl}
 use native.Mathlib.Omega.{arith}
-use Rattle.lists.proofs.Fill.{Filled, filled-start, filled-store, filled-end}
-use Rattle.tasks.specs.Tick.{releasedAt, released}
+use Rattle.lists.proofs.Fill.{Filled, filled_start, filled_store, filled_end}
+use Rattle.tasks.specs.Tick.{released_at, released}
 use borrow.Author.Rules.{rules}
 use Rattle.tasks.proofs.state.State.release.Statement.{statement}
 use Rattle.tasks.proofs.state.State.release.Tie as tie
 
 abbrev invariant-loop : tie.invariant-loop
 invariant-loop mask self t c₀ p₀ i₀ c p i =
-    (i ≤ 8) × Filled 0 (releasedAt t.work self.c mask) c i × Filled 0 (releasedAt t.gap self.p mask) p i
+    (i ≤ 8) × Filled 0 (released_at t.work self.c mask) c i × Filled 0 (released_at t.gap self.p mask) p i
 
 abbrev decreases-loop : tie.decreases-loop
 decreases-loop mask self t c₀ p₀ i₀ c p i = 8 - i
 
 loop-holds : tie.Need-loop-init invariant-loop decreases-loop
-loop-holds c = (omega arith, filled-start refl, filled-start refl)
+loop-holds c = (omega arith, filled_start refl, filled_start refl)
 
 has-bit-requires : tie.Need-has-bit-requires invariant-loop decreases-loop
 has-bit-requires c κs = search rules
@@ -51,16 +51,16 @@ loop-less : tie.Need-loop-smaller invariant-loop decreases-loop
 loop-less c = search rules
 
 loop-again : tie.Need-loop-preserved invariant-loop decreases-loop
-unfolding releasedAt
+unfolding released_at
 loop-again c =
     let inv = c.before.before.before.before.before.before.before.before.loop.invariant in
-    (omega arith, filled-store inv.1 (omega arith) (cc), filled-store inv.2 (omega arith) (cc))
+    (omega arith, filled_store inv.1 (omega arith) (cc), filled_store inv.2 (omega arith) (cc))
 
 returns : tie.Need-returns invariant-loop decreases-loop
 unfolding released
 returns c =
     let inv = c.before.loop.invariant in
-    λ k. record { c = filled-end inv.1 (omega arith) k; p = filled-end inv.2 (omega arith) k }
+    λ k. record { c = filled_end inv.1 (omega arith) k; p = filled_end inv.2 (omega arith) k }
 
 pub release_spec : {M : Type 1} → statement M
 release_spec =

@@ -1,20 +1,20 @@
 use native.Mathlib.Omega.{arith}
 use Prim.Native.Nat.{◌≤◌, ◌-◌}
 use mathlib.Core.Path.{refl}
-use Rattle.tasks.specs.Tick.{ranAt, fallen, ran}
-use Rattle.lists.proofs.Fill.{Filled, filled-start, filled-store, filled-end}
+use Rattle.tasks.specs.Tick.{ran_at, fallen, ran}
+use Rattle.lists.proofs.Fill.{Filled, filled_start, filled_store, filled_end}
 use borrow.Author.Rules.{rules}
 use Rattle.tasks.proofs.state.State.run.Statement.{statement}
 use Rattle.tasks.proofs.state.State.run.Tie as tie
 
 abbrev invariant-loop : tie.invariant-loop
-invariant-loop self run c₀ p₀ i₀ c p i = (i ≤ 8) × Filled 0 (ranAt self.c run) c i × Filled 0 (fallen self.p) p i
+invariant-loop self run c₀ p₀ i₀ c p i = (i ≤ 8) × Filled 0 (ran_at self.c run) c i × Filled 0 (fallen self.p) p i
 
 abbrev decreases-loop : tie.decreases-loop
 decreases-loop self run c₀ p₀ i₀ c p i = 8 - i
 
 loop-holds : tie.Need-loop-init invariant-loop decreases-loop
-loop-holds c = (omega arith, filled-start refl, filled-start refl)
+loop-holds c = (omega arith, filled_start refl, filled_start refl)
 
 array-read-either : tie.Need-array-read-either invariant-loop decreases-loop
 array-read-either c = search rules
@@ -50,16 +50,16 @@ loop-less : tie.Need-loop-smaller invariant-loop decreases-loop
 loop-less c = search rules
 
 loop-again : tie.Need-loop-preserved invariant-loop decreases-loop
-unfolding ranAt fallen
+unfolding ran_at fallen
 loop-again c =
     let inv = c.before.before.before.before.before.before.before.loop.invariant in
-    (omega arith, filled-store inv.1 (omega arith) (cc), filled-store inv.2 (omega arith) (cc))
+    (omega arith, filled_store inv.1 (omega arith) (cc), filled_store inv.2 (omega arith) (cc))
 
 returns : tie.Need-returns invariant-loop decreases-loop
 unfolding ran
 returns c =
     let inv = c.before.loop.invariant in
-    λ k. record { c = filled-end inv.1 (omega arith) k; p = filled-end inv.2 (omega arith) k }
+    λ k. record { c = filled_end inv.1 (omega arith) k; p = filled_end inv.2 (omega arith) k }
 
 pub run_spec : {M : Type 1} → statement M
 run_spec =

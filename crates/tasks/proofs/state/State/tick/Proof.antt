@@ -2,8 +2,8 @@ use Prim.Native.Nat.{◌≤◌}
 use mathlib.Core.Path.{sym, ap, ◌∙◌}
 use Rattle.tasks.specs.Tick.{refusal, answered}
 use Rattle.tasks.specs.declared.tick.TickAnswer.TheVariants.{Next, Missed, Refused}
-use Rattle.tasks.proofs.Answers.{tick-told}
-use Rattle.tasks.proofs.Answered.{ticked-refused, ticked-missed, ticked-next}
+use Rattle.tasks.proofs.Answers.{tick_told}
+use Rattle.tasks.proofs.Answered.{ticked_refused, ticked-missed, ticked-next}
 use borrow.Author.Rules.{rules}
 use Rattle.tasks.proofs.state.State.tick.Statement.{statement}
 use Rattle.tasks.proofs.state.State.tick.Tie as tie
@@ -23,7 +23,7 @@ returns c =
     let a = c.before.before.before.args in
     let e = c.before.before.refusal.ensures in
     let r = c.answered.ensures ∙ ap (λ n. answered (Refused n) a.self) e in
-    tick-told (r ∙ ticked-refused a.t a.self a.mask (rw e at c.before.if1.true))
+    tick_told (r ∙ ticked_refused a.t a.self a.mask (rw e at c.before.if1.true))
 
 advance-requires : tie.Need-advance-requires
 advance-requires c κs = search rules
@@ -40,7 +40,7 @@ returns-2 c =
     let e = c.before.before.before.advance.ensures in
     let none = passed c.before.before.before.before in
     let miss = sym c.before.before.missed.ensures ∙ c.before.if2.true in
-    tick-told (c.answered2.ensures ∙ ap (answered Missed) e ∙ ticked-missed a.t a.self a.mask none (rw e at miss))
+    tick_told (c.answered2.ensures ∙ ap (answered Missed) e ∙ ticked-missed a.t a.self a.mask none (rw e at miss))
 
 answered-requires-3 : tie.Need-answered-requires-3
 answered-requires-3 c κs = search rules
@@ -51,7 +51,7 @@ returns-3 c =
     let e = c.before.before.before.advance.ensures in
     let none = passed c.before.before.before.before in
     let miss = sym c.before.before.missed.ensures ∙ c.before.if2.false in
-    tick-told (c.answered3.ensures ∙ ap (answered Next) e ∙ ticked-next a.t a.self a.mask none (rw e at miss))
+    tick_told (c.answered3.ensures ∙ ap (answered Next) e ∙ ticked-next a.t a.self a.mask none (rw e at miss))
 
 pub tick-spec : {M : Type 1} → statement M
 tick-spec =

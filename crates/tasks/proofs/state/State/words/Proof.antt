@@ -3,7 +3,7 @@ use Prim.Native.Nat.{◌≤◌, ◌+◌, ◌-◌, ◌*◌}
 use mathlib.Core.Path.{refl, ap₂}
 use lib.ListN.{get_or}
 use Rattle.tasks.specs.Words.{words_of}
-use Rattle.lists.proofs.Fill.{Filled, filled-start, filled-store, filled-end}
+use Rattle.lists.proofs.Fill.{Filled, filled_start, filled_store, filled_end}
 use borrow.Author.Rules.{rules}
 use Rattle.tasks.proofs.state.State.words.Statement.{statement}
 use Rattle.tasks.proofs.state.State.words.Tie as tie
@@ -15,7 +15,7 @@ abbrev decreases-loop : tie.decreases-loop
 decreases-loop self out₀ i₀ out i = 8 - i
 
 loop-holds : tie.Need-loop-init invariant-loop decreases-loop
-loop-holds c = (omega arith, filled-start refl)
+loop-holds c = (omega arith, filled_start refl)
 
 element-copy-out-wide16 : tie.Need-element-copy-out-wide16 invariant-loop decreases-loop
 element-copy-out-wide16 c = search rules
@@ -48,11 +48,11 @@ loop-less : tie.Need-loop-smaller invariant-loop decreases-loop
 loop-less c = search rules
 
 loop-again : tie.Need-loop-preserved invariant-loop decreases-loop
-loop-again c = (omega arith, filled-store c.before.before.before.before.before.loop.invariant.1 (omega arith) (ap₂ (λ x y. x + 256 * y) c.before.before.wide16.ensures.0 c.wide162.ensures.0))
+loop-again c = (omega arith, filled_store c.before.before.before.before.before.loop.invariant.1 (omega arith) (ap₂ (λ x y. x + 256 * y) c.before.before.wide16.ensures.0 c.wide162.ensures.0))
 
 returns : tie.Need-returns invariant-loop decreases-loop
 unfolding words_of
-returns c = filled-end c.before.loop.invariant.1 c.loop-test.false
+returns c = filled_end c.before.loop.invariant.1 c.loop-test.false
 
 pub words-spec : {M : Type 1} → statement M
 words-spec =

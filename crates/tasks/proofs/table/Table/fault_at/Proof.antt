@@ -1,5 +1,5 @@
 -- By cases on whether the entry is one of the first n. Assumes nothing.
-use Rattle.tasks.specs.Table.{faultAt}
+use Rattle.tasks.specs.Table.{fault_at}
 use borrow.Author.Tests.{lt-ltb, le-ltb}
 use borrow.Author.Rules.{rules}
 use Rattle.tasks.proofs.table.Table.fault_at.Statement.{statement}
@@ -30,11 +30,11 @@ breaks-requires : tie.Need-breaks-requires
 breaks-requires c κs = search rules
 
 returns : tie.Need-returns
-unfolding faultAt
+unfolding fault_at
 returns c = rw (lt-ltb _ _ c.before.if1.true, c.breaks.ensures, c.before.before.before.before.before.before.wide.ensures.0, c.before.before.before.before.wide2.ensures.0, c.before.before.wide3.ensures.0)
 
 returns-2 : tie.Need-returns-2
-unfolding faultAt
+unfolding fault_at
 returns-2 c = rw (le-ltb _ _ c.if1.false, c.before.before.before.before.before.wide.ensures.0, c.before.before.before.wide2.ensures.0, c.before.wide3.ensures.0)
 
 pub fault-at-spec : {M : Type 1} → statement M

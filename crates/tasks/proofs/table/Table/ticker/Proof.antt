@@ -2,10 +2,10 @@ use Prim.Native.Nat.{◌^◌}
 use mathlib.Core.Path.{ap, ◌∙◌}
 use mathlib.Core.Bool.{false}
 use Rattle.lists.specs.Lists.{eight}
-use Rattle.jobs.specs.Place.{gapMask, workMask}
+use Rattle.jobs.specs.Place.{gap_mask, work_mask}
 use Rattle.tasks.specs.Tick.{released, ran}
 use Rattle.tasks.specs.Words.{words_of}
-use Rattle.tasks.specs.Ticker.{tickerOf, placesIn}
+use Rattle.tasks.specs.Ticker.{ticker_of, places_in}
 use borrow.Author.Rules.{rules}
 use Rattle.tasks.proofs.table.Table.ticker.Statement.{statement}
 use Rattle.tasks.proofs.table.Table.ticker.Tie as tie
@@ -47,7 +47,7 @@ wide16-requires : tie.Need-wide16-requires
 wide16-requires c κs = search rules
 
 returns : tie.Need-returns
-unfolding tickerOf
+unfolding ticker_of
 returns c =
     let w = c.before.before in
     let n = w.before in
@@ -61,7 +61,7 @@ returns c =
     let fresh = r.release.ensures ∙ ap (λ s. released t s 255) r.before.start.ensures in
     let word = w.words2.ensures ∙ ap words_of (k.before.run.ensures ∙ ap (λ s. ran s (eight (λ i. false))) fresh) in
     let words = v.words.ensures ∙ ap words_of fresh in
-    let place = n.new-places.ensures ∙ (λ j. placesIn (eight (λ i. gapMask t.policy)) (eight (λ i. workMask t.policy)) (k.kept.ensures j) (s.bases.ensures j) (words j)) in
+    let place = n.new-places.ensures ∙ (λ j. places_in (eight (λ i. gap_mask t.policy)) (eight (λ i. work_mask t.policy)) (k.kept.ensures j) (s.bases.ensures j) (words j)) in
     λ j.
     record {
       bits = eight (λ i. 2 ^ i);

@@ -1,6 +1,6 @@
 use mathlib.Core.Path.{ap, ap₂, ◌∙◌}
 use Rattle.lists.specs.Lists.{eight}
-use Rattle.tasks.specs.Ticker.{selected, lowered, tickedBy}
+use Rattle.tasks.specs.Ticker.{selected, lowered, ticked_by}
 use borrow.Author.Rules.{rules}
 use Rattle.tasks.proofs.ticker.Ticker.after.Statement.{statement}
 use Rattle.tasks.proofs.ticker.Ticker.after.Tie as tie
@@ -18,7 +18,7 @@ lowered-requires : tie.Need-lowered-requires
 lowered-requires c κs = search rules
 
 returns : tie.Need-returns
-unfolding tickedBy
+unfolding ticked_by
 returns c =
     let second = c.before in
     let first = c.before.before.before.before in

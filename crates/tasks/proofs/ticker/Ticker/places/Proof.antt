@@ -1,8 +1,8 @@
 use Prim.Native.Nat.{◌≤◌, ◌-◌}
 use mathlib.Core.Path.{refl}
 use lib.ListN.{get_or}
-use Rattle.tasks.specs.Ticker.{place_in, placesIn}
-use Rattle.lists.proofs.Fill.{Filled, filled-start, filled-store, filled-end}
+use Rattle.tasks.specs.Ticker.{place_in, places_in}
+use Rattle.lists.proofs.Fill.{Filled, filled_start, filled_store, filled_end}
 use native.Mathlib.Omega.{arith}
 use borrow.Author.Rules.{rules}
 use Rattle.tasks.proofs.ticker.Ticker.places.Statement.{statement}
@@ -15,7 +15,7 @@ abbrev decreases-loop : tie.decreases-loop
 decreases-loop self v out₀ i₀ out i = 8 - i
 
 loop-holds : tie.Need-loop-init invariant-loop decreases-loop
-loop-holds c = (omega arith, filled-start refl)
+loop-holds c = (omega arith, filled_start refl)
 
 mul-place-in : tie.Need-overflow-mul-place-in invariant-loop decreases-loop
 mul-place-in c = search rules
@@ -63,11 +63,11 @@ loop-less : tie.Need-loop-smaller invariant-loop decreases-loop
 loop-less c = search rules
 
 loop-again : tie.Need-loop-preserved invariant-loop decreases-loop
-loop-again c = (omega arith, filled-store c.before.before.before.before.before.before.loop.invariant.1 (omega arith) c.place-in.ensures)
+loop-again c = (omega arith, filled_store c.before.before.before.before.before.before.loop.invariant.1 (omega arith) c.place_in_lem.ensures)
 
 returns : tie.Need-returns invariant-loop decreases-loop
-unfolding placesIn
-returns c = filled-end c.before.loop.invariant.1 c.loop-test.false
+unfolding places_in
+returns c = filled_end c.before.loop.invariant.1 c.loop-test.false
 
 pub places-spec : {M : Type 1} → statement M
 places-spec =

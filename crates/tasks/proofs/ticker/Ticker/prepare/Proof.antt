@@ -1,4 +1,4 @@
-use Rattle.tasks.specs.Ticker.{preparedBy}
+use Rattle.tasks.specs.Ticker.{prepared_by}
 use borrow.Author.Rules.{rules}
 use Rattle.tasks.proofs.ticker.Ticker.prepare.Statement.{statement}
 use Rattle.tasks.proofs.ticker.Ticker.prepare.Tie as tie
@@ -10,7 +10,7 @@ old-words-requires : tie.Need-old-words-requires
 old-words-requires c κs = search rules
 
 returns : tie.Need-returns
-unfolding preparedBy
+unfolding prepared_by
 returns c = λ k. record { place = c.before.places.ensures k; word = c.old-words.ensures k }
 
 pub prepare-spec : {M : Type 1} → statement M

@@ -2,7 +2,7 @@ use Prim.Native.Nat.{◌≤◌, ◌-◌}
 use mathlib.Core.Path.{refl}
 use native.Mathlib.Omega.{arith}
 use Rattle.tasks.specs.Ticker.{selected}
-use Rattle.lists.proofs.Fill.{Filled, filled-start, filled-store, filled-end}
+use Rattle.lists.proofs.Fill.{Filled, filled_start, filled_store, filled_end}
 use borrow.Author.Rules.{rules}
 use Rattle.tasks.proofs.ticker.Ticker.selected.Statement.{statement}
 use Rattle.tasks.proofs.ticker.Ticker.selected.Tie as tie
@@ -14,7 +14,7 @@ abbrev decreases-loop : tie.decreases-loop
 decreases-loop mask self old new out₀ i₀ out i = 8 - i
 
 loop-holds : tie.Need-loop-init invariant-loop decreases-loop
-loop-holds c = (omega arith, filled-start refl)
+loop-holds c = (omega arith, filled_start refl)
 
 mul-either16 : tie.Need-overflow-mul-either16 invariant-loop decreases-loop
 mul-either16 c = search rules
@@ -51,10 +51,10 @@ loop-less c = search rules
 
 loop-again : tie.Need-loop-preserved invariant-loop decreases-loop
 unfolding selected
-loop-again c = (omega arith, filled-store c.before.before.before.loop.invariant.1 (omega arith) c.either16.ensures)
+loop-again c = (omega arith, filled_store c.before.before.before.loop.invariant.1 (omega arith) c.either16.ensures)
 
 returns : tie.Need-returns invariant-loop decreases-loop
-returns c = filled-end c.before.loop.invariant.1 c.loop-test.false
+returns c = filled_end c.before.loop.invariant.1 c.loop-test.false
 
 pub selected-spec : {M : Type 1} → statement M
 selected-spec =
