@@ -1,4 +1,6 @@
 // Cutting at a priority: the first k tasks of a table, and with them the cut of a state, of a mask and of a list.
+#![tactic(auto)]
+
 mod masks;
 mod numbers;
 mod tables;

@@ -1,4 +1,6 @@
 // The search of a task table's states: slots in a lent work space, level by level, with its verdict.
+#![tactic(auto)]
+
 mod hunt;
 mod index;
 mod outcome;

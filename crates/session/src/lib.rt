@@ -1,4 +1,6 @@
 // Sessions: whoever looks into a replay steps through it tick by tick, sets marks, and returns to them.
+#![tactic(auto)]
+
 mod calls;
 mod marks;
 

@@ -1,5 +1,7 @@
 // The slots of a work space in columns: read and written, as the paper has them and as they stand while a search runs.
 // For the layers above: it reads and writes the bytes that the caller shows to be there. `write_state` refuses a space that is too short.
+#![tactic(auto)]
+
 mod read;
 mod running;
 mod write;

@@ -1,5 +1,7 @@
 // The states of a table: as a transition system, as sixteen bytes and as keys; their legal masks in order, and whether one of them misses.
 // For the layers above: it takes any table and any words, and refuses nothing; of bytes it reads those that the caller shows to be there.
+#![tactic(auto)]
+
 mod column;
 mod keys;
 mod masks;

@@ -1,4 +1,6 @@
 // The lower layer of the verdict engine: the task table and its faults, the sheet, the state, one tick, and the replay of a list.
+#![tactic(auto)]
+
 mod copies;
 mod number;
 mod places;

@@ -1,4 +1,6 @@
 // Many ticks in one call, for the comparison of speed with a native tick (bench/README.md). No part of the engine.
+#![tactic(auto)]
+
 ghost use Rattle.std.specs.Prelude.{◌≡◌, ◌+◌, ◌*◌, ◌≤◌, length};
 ghost use Rattle.ticks.specs.Ticks.{bytes_from, table_of, state_in, word, figure, pairs, ticks_sum};
 ghost use Rattle.tasks.specs.Ticker.{prepared_by, ticked_by};

@@ -1,6 +1,8 @@
 // Runs outside vectors over the library: reads records from standard input and prints a line for each.
 // A record is a kind, the length of its body in two bytes, low byte first, and the body;
 // tests/make_vectors.py makes the records and the lines expected, and says what each kind holds.
+#![tactic(auto)]
+
 mod columns;
 mod cuts;
 mod drawn;

@@ -1,4 +1,6 @@
 // Reads a sheet from standard input and prints the lines of its verdict: one read, one call, one write.
+#![tactic(auto)]
+
 use libc::{STDIN_FILENO, STDOUT_FILENO};
 
 // The first 64 bytes of the input decide every answer (`judged-front` in crates/lines/proofs/Front.antt).
