@@ -6,11 +6,7 @@ use Rattle.lists.proofs.Bools.{by_bool}
 use Rattle.cores.specs.Walk.{capped}
 use native.Mathlib.Omega.{arith}
 use borrow.Author.Rules.{rules}
-use Rattle.cores.proofs.walk.above.Statement.{statement}
-use Rattle.cores.proofs.walk.above.Tie as tie
-
-add-result : tie.Need-overflow-add-result
-add-result c = search rules
+use Rattle.cores.proofs.walk.above.Goals as goal
 
 some : (x : ℕ) → x < 65535 → x + 1 ≡ capped x + 1
 some x h = by_bool (ltb x 65534) (λ e. rw e) (λ e. rw e (omega (arith, ltb-false x 65534 e)))
@@ -18,11 +14,8 @@ some x h = by_bool (ltb x 65534) (λ e. rw e) (λ e. rw e (omega (arith, ltb-fal
 none : (x : ℕ) → 65535 ≤ x → 65535 ≡ capped x + 1
 none x h = rw (le-ltb x 65534 (omega arith))
 
-returns : tie.Need-returns
-returns c = some c.before.args.place c.if1.true
+pub returns-then-place-lt65535 : goal.returns-then-place-lt65535
+returns-then-place-lt65535 c = some c.args.place c.if-place-lt65535.true
 
-returns-2 : tie.Need-returns-2
-returns-2 c = none c.before.args.place c.if1.false
-
-pub above-spec : {M : Type 1} → statement M
-above-spec = tie.close (tie.spec add-result returns returns-2)
+pub returns-else-place-lt65535 : goal.returns-else-place-lt65535
+returns-else-place-lt65535 c = none c.args.place c.if-place-lt65535.false
