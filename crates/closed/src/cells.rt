@@ -36,7 +36,7 @@ fn names(file: &[u8], n: usize, cell: u32, key: Key) -> bool
 }
 
 // What a walk along the cells of a key ends with.
-#[derive(Drop)]
+#[derive(Clone, Copy)]
 pub(crate) enum Probed {
     Found,
     Empty(usize),

@@ -12,7 +12,7 @@ use states::{key_of, words_in};
 use tasks::{Reading, Table, Ticker};
 
 // The answer to a file: accepted, No, or a refusal's number.
-#[derive(Drop)]
+#[derive(Clone, Copy)]
 pub enum ClosedAnswer {
     Accepted,
     No,

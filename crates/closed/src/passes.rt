@@ -18,7 +18,7 @@ use states::{Key, follow, key_in, key_of, mix, words_in};
 use tasks::{Prepared, Table, Ticker};
 
 // The task by which the pairs are split, the most that it is from its next release after a tick, and its bit in a mask.
-#[derive(Drop)]
+#[derive(Clone, Copy)]
 pub(crate) struct Split {
     task: usize,
     top: usize,
@@ -26,7 +26,7 @@ pub(crate) struct Split {
 }
 
 // The pairs of a pass: how far the task is from its next release, from low to high - 1, and the class of the state, of so many.
-#[derive(Drop)]
+#[derive(Clone, Copy)]
 pub(crate) struct Pass {
     low: usize,
     high: usize,

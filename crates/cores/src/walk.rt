@@ -4,7 +4,7 @@ ghost use Rattle.lists.specs.Lists.{eight, pick, count};
 ghost use Rattle.cores.specs.Walk.{under, capped, sooner, rank, kept_count, ready_count, served, Walked};
 
 // A walk on its way: 1 for each task that has been given a processor and 0 for the others, and how many have been given out.
-#[derive(Drop)]
+#[derive(Clone, Copy)]
 struct Walk {
     run: [u16; 8],
     count: u16,

@@ -3,7 +3,7 @@ ghost use Rattle.std.specs.Prelude.{◌≡◌, ◌+◌, ◌%◌};
 ghost use Rattle.practice.specs.Practice.{drawn};
 
 // The three numbers of a task.
-#[derive(Drop)]
+#[derive(Clone, Copy)]
 pub(crate) struct Task {
     pub work: u8,
     pub deadline: u8,

@@ -8,7 +8,7 @@ use states::{follow, full_misses, words_in};
 use tasks::{Table, Ticker, misses, tight};
 
 // What a hunt finds: a slot and a mask that misses from it.
-#[derive(Drop)]
+#[derive(Clone, Copy)]
 pub(crate) enum HuntAnswer {
     Miss(usize, u8),
     Clear,

@@ -9,7 +9,7 @@ use crate::store::{Filled, store_level};
 use tasks::{Table, Ticker};
 
 // Safe with the count; Unsafe with L and the count; No room with the count; or a refusal's number.
-#[derive(Drop)]
+#[derive(Clone, Copy)]
 pub enum SearchAnswer {
     Safe(usize),
     Unsafe(usize, usize),
@@ -19,7 +19,7 @@ pub enum SearchAnswer {
 
 // How the levels end: with a slot, a mask that misses from it, the number of masks that lead to it and that of slots filled;
 // with all states in that many slots; or with every slot filled, and a state more.
-#[derive(Drop)]
+#[derive(Clone, Copy)]
 pub(crate) enum End {
     Missed(usize, u8, usize, usize),
     Closed(usize),

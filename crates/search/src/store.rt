@@ -12,7 +12,7 @@ use states::{follow, words_in};
 use tasks::{Prepared, Table, Ticker};
 
 // What becomes of a state under a mask: nothing new, a new slot, or no room for one.
-#[derive(Drop)]
+#[derive(Clone, Copy)]
 pub(crate) enum Attempt {
     Nothing,
     New,
@@ -20,7 +20,7 @@ pub(crate) enum Attempt {
 }
 
 // How far the slots are filled: up to a number, or there was no room.
-#[derive(Drop)]
+#[derive(Clone, Copy)]
 pub(crate) enum Filled {
     Upto(usize),
     Full,

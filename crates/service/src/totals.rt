@@ -8,7 +8,7 @@ ghost use Rattle.service.specs.Raised.{Room, raised_at};
 use tasks::{ReplayAnswer, Replayed, State};
 
 // For each of eight tasks: the number of its releases, the ticks in which it ran, and the work left at the end.
-#[derive(Drop)]
+#[derive(Clone, Copy)]
 pub struct Totals {
     pub releases: [u64; 8],
     pub ran: [u64; 8],
@@ -16,7 +16,7 @@ pub struct Totals {
 }
 
 // What the replay of a list answers, and its totals.
-#[derive(Drop)]
+#[derive(Clone, Copy)]
 pub struct Account {
     pub replayed: Replayed,
     pub totals: Totals,

@@ -7,14 +7,14 @@ use crate::marks::{Session, outside};
 use tasks::{Table, TickAnswer, Ticked};
 
 // What a step answers: the tick's answer and state, and the session after it.
-#[derive(Drop)]
+#[derive(Clone, Copy)]
 pub struct Stepped {
     pub ticked: Ticked,
     pub session: Session,
 }
 
 // The three calls, with a mask or the number of a mark.
-#[derive(Drop)]
+#[derive(Clone, Copy)]
 pub enum Call {
     Step(u8),
     SetMark(u8),
@@ -22,14 +22,14 @@ pub enum Call {
 }
 
 // The answer of a call; the session after it travels beside it. Only a step is Missed.
-#[derive(Drop)]
+#[derive(Clone, Copy)]
 pub enum SessionAnswer {
     Done,
     Missed,
     Refused(u8),
 }
 
-#[derive(Drop)]
+#[derive(Clone, Copy)]
 pub struct Called {
     pub answer: SessionAnswer,
     pub session: Session,

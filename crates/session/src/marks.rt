@@ -7,14 +7,14 @@ ghost use Rattle.session.specs.Session.{fresh, mark_at, marked, moved, improper_
 use tasks::{State, Table};
 
 // A mark: empty where it is not set, whatever the state beside it.
-#[derive(Drop)]
+#[derive(Clone, Copy)]
 pub struct Mark {
     pub set: bool,
     pub state: State,
 }
 
 // The present state, and marks 1 to 8.
-#[derive(Drop)]
+#[derive(Clone, Copy)]
 pub struct Session {
     pub present: State,
     pub marks: [Mark; 8],

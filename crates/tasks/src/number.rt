@@ -7,7 +7,7 @@ ghost use Rattle.tasks.specs.Number.{number_bytes, number_at};
 use crate::widths::wide;
 
 // What stands at a place of a sheet: a number with the place after it, or why there is none.
-#[derive(Drop)]
+#[derive(Clone, Copy)]
 pub enum Number {
     Value(usize, usize),
     Refused(u8),

@@ -9,21 +9,21 @@ use crate::state::State;
 use crate::table::Table;
 
 // How a played list ended: kept, or missed at the tick of that number, the first being 1.
-#[derive(Drop)]
+#[derive(Clone, Copy)]
 pub enum Outcome {
     Kept,
     Missed(usize),
 }
 
 // Played, or refused: the refusal's number, and the tick's, which is 0 where the table is refused.
-#[derive(Drop)]
+#[derive(Clone, Copy)]
 pub enum ReplayAnswer {
     Played(Outcome),
     Refused(u8, usize),
 }
 
 // The answer, and the state beside it: the last one, the one after the miss, or the one given to the refused tick.
-#[derive(Drop)]
+#[derive(Clone, Copy)]
 pub struct Replayed {
     pub answer: ReplayAnswer,
     pub state: State,

@@ -7,21 +7,21 @@ use crate::number::{Number, read_number};
 use crate::table::{LAST_POLICY, Table, breaks};
 
 // What reading a sheet answers.
-#[derive(Drop)]
+#[derive(Clone, Copy)]
 pub enum Reading {
     Accepted,
     Refused(u8),
 }
 
 // The answer with the table that was read, whose numbers are all 0 where the sheet is refused.
-#[derive(Drop)]
+#[derive(Clone, Copy)]
 pub struct Sheet {
     pub answer: Reading,
     pub table: Table,
 }
 
 // The three numbers of a task.
-#[derive(Drop)]
+#[derive(Clone, Copy)]
 pub(crate) struct Task {
     pub work: u8,
     pub deadline: u8,
@@ -29,7 +29,7 @@ pub(crate) struct Task {
 }
 
 // What stands at a task's place: its numbers with the place after them, or why there is none.
-#[derive(Drop)]
+#[derive(Clone, Copy)]
 pub(crate) enum TaskRead {
     Read(Task, usize),
     Refused(u8),

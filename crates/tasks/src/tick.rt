@@ -7,14 +7,14 @@ use crate::state::State;
 use crate::table::Table;
 
 // The answer of a tick; the state travels beside it.
-#[derive(Drop)]
+#[derive(Clone, Copy)]
 pub enum TickAnswer {
     Next,
     Missed,
     Refused(u8),
 }
 
-#[derive(Drop)]
+#[derive(Clone, Copy)]
 pub struct Ticked {
     pub answer: TickAnswer,
     pub state: State,

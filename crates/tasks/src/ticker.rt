@@ -11,7 +11,7 @@ use crate::widths::{either16, wide16};
 // A table made ready for many ticks. For each task: its bit in a mask; the work below which its job keeps its processor; its place but
 // for what its two numbers add to it; 255 where the policy goes by the ticks until the release, and 255 where it goes by the work left; its
 // place and its word in a tick that releases it; and the limit below which its word says that it may be released. Then m.
-#[derive(Drop)]
+#[derive(Clone, Copy)]
 pub struct Ticker {
     bits: [u16; 8],
     kept: [u16; 8],
@@ -25,7 +25,7 @@ pub struct Ticker {
 }
 
 // A state made ready for many ticks: for each task its place and its word in a tick that does not release it.
-#[derive(Drop)]
+#[derive(Clone, Copy)]
 pub struct Prepared {
     place: [u16; 8],
     word: [u16; 8],

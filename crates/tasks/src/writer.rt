@@ -8,7 +8,7 @@ use crate::number::{number_len, put_number};
 use crate::table::Table;
 
 // What writing a sheet answers: its length, or why it is not written.
-#[derive(Drop)]
+#[derive(Clone, Copy)]
 pub enum Writing {
     Written(usize),
     Refused(u8),

@@ -1,0 +1,18 @@
+-- The invariant: task j is counted for the first i. Assumes nothing.
+use Prim.Native.Nat.{◌+◌, ◌-◌, ◌≤◌}
+use mathlib.Core.Path.{refl}
+use lib.IntN.{pos}
+use lib.ListN.{get_or}
+use Rattle.lists.proofs.Fill.{Filled, filled_start, filled_store, filled_end}
+use Rattle.jobs.proofs.Signed.{back}
+use Rattle.tasks.specs.Places.{before_in, earlier_in}
+use Rattle.tasks.proofs.Place.{earlier_turn, earlier_room}
+use native.Mathlib.Omega.{arith}
+use borrow.Author.Rules.{rules}
+use Rattle.tasks.proofs.places.count_job.Given as goal
+
+abbrev pub invariant-loop-i : goal.invariant-loop-i
+invariant-loop-i l = (l.i ≤ 8) × Filled 0 (earlier_in l.keys l.ages (l.j + 1)) l.out l.i
+
+abbrev pub decreases-loop-i : goal.decreases-loop-i
+decreases-loop-i l = 8 - l.i

@@ -1,0 +1,64 @@
+-- Each number is refused, or passes its rule and the next is read; the tasks are read with a count of at most 8. Assumes nothing.
+use Rattle.tasks.proofs.Fields.{field_read}
+use Rattle.tasks.specs.Table.{last_policy}
+use Rattle.tasks.specs.Sheet.{field_at, from_policy}
+use Rattle.tasks.specs.declared.number.Number.TheVariants.{Value}
+use mathlib.Core.Path.{◌≡◌, sym, ◌∙◌}
+use native.Mathlib.Omega.{arith}
+use borrow.Author.Rules.{rules}
+use Rattle.tasks.proofs.sheet.read_header.Goals as goal
+
+-- the numbers that were read, each after the one before
+policy-read : (c : tie.After-policy) → field_at c.before.before.before.before.args.s.now c.before.before.before.before.args.at 0 last_policy 4 ≡ Value c.policy.given.0.0 c.policy.given.0.1.0
+policy-read c = sym c.before.before.read-field.ensures ∙ c.policy.given.1
+
+abbrev policy-place : tie.After-m → tie.After-policy
+policy-place c = c.before.before.before.before
+
+m-read : (c : tie.After-m) → field_at (policy-place c).before.before.before.before.args.s.now (policy-place c).policy.given.0.1.0 1 8 5 ≡ Value c.m.given.0.0 c.m.given.0.1.0
+m-read c = sym c.before.before.read-field2.ensures ∙ c.m.given.1
+
+abbrev m-place : tie.After-n → tie.After-m
+m-place c = c.before.before.before.before
+
+n-read : (c : tie.After-n) → field_at (policy-place (m-place c)).before.before.before.before.args.s.now (m-place c).m.given.0.1.0 1 8 6 ≡ Value c.n.given.0.0 c.n.given.0.1.0
+n-read c = sym c.before.before.read-field3.ensures ∙ c.n.given.1
+
+pub overflow_cast-policy : goal.overflow_cast-policy
+overflow_cast-policy c =
+    omega (arith, (field_read _ _ 0 last_policy 4 (policy-read (policy-place (m-place c)))).upto)
+
+pub overflow_cast-m : goal.overflow_cast-m
+overflow_cast-m c =
+    omega (arith, (field_read _ _ 1 8 5 (m-read (m-place c))).upto)
+
+pub overflow_cast-n : goal.overflow_cast-n
+overflow_cast-n c =
+    omega (arith, (field_read _ _ 1 8 6 (n-read c)).upto)
+
+pub read_tasks-requires : goal.read_tasks-requires
+read_tasks-requires c =
+    omega (arith, (field_read _ _ 1 8 6 (n-read c)).upto)
+
+pub returns-in-Refused : goal.returns-in-Refused
+unfolding from_policy
+returns-in-Refused c =
+    let e = sym c.read_field.ensures ∙ c.r-1.given.1 in
+    rw e c.refused.ensures
+
+pub returns-in-Refused-read_field : goal.returns-in-Refused-read_field
+unfolding from_policy
+returns-in-Refused-read_field c =
+    let f = sym c.read_field-in-Value.ensures ∙ c.r-in-Refused-read_field-2-1.given.1 in
+    rw (policy-read c, f) c.refused-in-Refused-read_field.ensures
+
+pub returns-in-Refused-read_field-2 : goal.returns-in-Refused-read_field-2
+unfolding from_policy
+returns-in-Refused-read_field-2 c =
+    let g = sym c.read_field-in-Value-read_field.ensures ∙ c.r-in-Refused-read_field-3-1.given.1 in
+    rw (policy-read (policy-place c), m-read c, g) c.refused-in-Refused-read_field-2.ensures
+
+pub returns-in-Value-read_field-2 : goal.returns-in-Value-read_field-2
+unfolding from_policy
+returns-in-Value-read_field-2 c =
+    rw (policy-read (policy-place (m-place c)), m-read (m-place c), n-read c) c.read_tasks.ensures

@@ -1,0 +1,7 @@
+use Rattle.tasks.specs.State.{improper}
+use borrow.Author.Rules.{rules}
+use Rattle.tasks.proofs.state.State.improper.Goals as goal
+
+pub returns : goal.returns
+unfolding improper
+returns c = cc

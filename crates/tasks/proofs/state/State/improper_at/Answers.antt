@@ -1,0 +1,7 @@
+use Rattle.tasks.specs.State.{improper_at}
+use borrow.Author.Rules.{rules}
+use Rattle.tasks.proofs.state.State.improper_at.Goals as goal
+
+pub returns : goal.returns
+unfolding improper_at
+returns c = rw c.late.ensures

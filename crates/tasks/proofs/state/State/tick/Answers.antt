@@ -1,0 +1,35 @@
+use Prim.Native.Nat.{◌≤◌}
+use mathlib.Core.Path.{sym, ap, ◌∙◌}
+use Rattle.tasks.specs.Tick.{refusal, answered}
+use Rattle.tasks.specs.declared.tick.TickAnswer.TheVariants.{Next, Missed, Refused}
+use Rattle.tasks.proofs.Answers.{tick_told}
+use Rattle.tasks.proofs.Answered.{ticked_refused, ticked-missed, ticked-next}
+use borrow.Author.Rules.{rules}
+use Rattle.tasks.proofs.state.State.tick.Goals as goal
+
+-- nothing refused the tick
+passed : (c : tie.Else1) → refusal c.before.before.args.t c.before.before.args.self c.before.before.args.mask ≤ 0
+passed c = rw c.before.refusal.ensures at c.if1.false
+
+pub returns-then-why-gt0 : goal.returns-then-why-gt0
+returns-then-why-gt0 c =
+    let a = c.args in
+    let e = c.refusal-why.ensures in
+    let r = c.answered.ensures ∙ ap (λ n. answered (Refused n) a.self) e in
+    tick_told (r ∙ ticked_refused a.t a.self a.mask (rw e at c.if-why-gt0.true))
+
+pub returns-then-missed : goal.returns-then-missed
+returns-then-missed c =
+    let a = c.args in
+    let e = c.advance-next.ensures in
+    let none = passed c in
+    let miss = sym c.missed.ensures ∙ c.if-missed.true in
+    tick_told (c.answered-then-missed.ensures ∙ ap (answered Missed) e ∙ ticked-missed a.t a.self a.mask none (rw e at miss))
+
+pub returns : goal.returns
+returns c =
+    let a = c.args in
+    let e = c.advance-next.ensures in
+    let none = passed c in
+    let miss = sym c.missed.ensures ∙ c.if-missed.false in
+    tick_told (c.answered-2.ensures ∙ ap (answered Next) e ∙ ticked-next a.t a.self a.mask none (rw e at miss))

@@ -1,0 +1,50 @@
+-- The first test that holds picks the refusal. Assumes nothing.
+use Rattle.lists.proofs.Picks.{pick_yes, pick_no}
+use Prim.Native.Nat.{◌<◌, ◌≤◌}
+use mathlib.Core.Path.{◌≡◌, sym, ◌∙◌, refl}
+use mathlib.Core.Bool.{true, false}
+use native.Mathlib.Omega.{arith}
+use lib.Dec.{ltb}
+use borrow.Author.Tests.{lt-ltb, le-ltb}
+use Rattle.tasks.specs.Table.{last_policy, table_fault}
+use borrow.Author.Rules.{rules}
+use Rattle.tasks.proofs.table.Table.fault.Goals as goal
+
+-- the policy that the test reads is the table's
+above : (c : tie.After-outside2) → last_policy < c.before.before.wide.result → ltb last_policy c.before.before.before.args.self.policy ≡ true
+above c h = lt-ltb last_policy c.before.before.before.args.self.policy (omega (arith, c.before.before.wide.ensures.0))
+
+within : (c : tie.After-outside2) → c.before.before.wide.result ≤ last_policy → ltb last_policy c.before.before.before.args.self.policy ≡ false
+within c h = le-ltb last_policy c.before.before.before.args.self.policy (omega (arith, c.before.before.wide.ensures.0))
+
+pub returns-then-policy-gt-LAST_POLICY : goal.returns-then-policy-gt-LAST_POLICY
+unfolding table_fault
+returns-then-policy-gt-LAST_POLICY c = pick_yes _ (above c c.if-policy-gt-LAST_POLICY.true)
+
+pub returns-then-m : goal.returns-then-m
+unfolding table_fault
+returns-then-m c =
+    pick_no _ (within c c.if-policy-gt-LAST_POLICY.false) (pick_yes _ (sym c.outside-m.ensures ∙ c.if-m.true))
+
+pub returns-then-n : goal.returns-then-n
+unfolding table_fault
+returns-then-n c =
+    pick_no _ (within c c.if-policy-gt-LAST_POLICY.false)
+    (pick_no _ (sym c.outside-m.ensures ∙ c.if-m.false)
+    (pick_yes _ (sym c.outside-n.ensures ∙ c.if-n.true)))
+
+pub returns-then-any_fault : goal.returns-then-any_fault
+unfolding table_fault
+returns-then-any_fault c =
+    pick_no _ (within c c.if-policy-gt-LAST_POLICY.false)
+    (pick_no _ (sym c.outside-m.ensures ∙ c.if-m.false)
+    (pick_no _ (sym c.outside-n.ensures ∙ c.if-n.false)
+    (pick_yes _ (sym c.any_fault.ensures ∙ c.if-any_fault.true))))
+
+pub returns : goal.returns
+unfolding table_fault
+returns c =
+    pick_no _ (within c c.if-policy-gt-LAST_POLICY.false)
+    (pick_no _ (sym c.outside-m.ensures ∙ c.if-m.false)
+    (pick_no _ (sym c.outside-n.ensures ∙ c.if-n.false)
+    (pick_no _ (sym c.any_fault.ensures ∙ c.if-any_fault.false) refl)))

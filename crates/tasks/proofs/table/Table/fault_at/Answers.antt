@@ -1,0 +1,13 @@
+-- By cases on whether the entry is one of the first n. Assumes nothing.
+use Rattle.tasks.specs.Table.{fault_at}
+use borrow.Author.Tests.{lt-ltb, le-ltb}
+use borrow.Author.Rules.{rules}
+use Rattle.tasks.proofs.table.Table.fault_at.Goals as goal
+
+pub returns-then-i-n : goal.returns-then-i-n
+unfolding fault_at
+returns-then-i-n c = rw (lt-ltb _ _ c.if-i-n.true, c.breaks.ensures, c.wide-work.ensures.0, c.wide-deadline.ensures.0, c.wide-gap.ensures.0)
+
+pub returns : goal.returns
+unfolding fault_at
+returns c = rw (le-ltb _ _ c.if-i-n.false, c.wide-work.ensures.0, c.wide-deadline.ensures.0, c.wide-gap.ensures.0)

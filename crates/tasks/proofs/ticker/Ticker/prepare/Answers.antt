@@ -1,0 +1,7 @@
+use Rattle.tasks.specs.Ticker.{prepared_by}
+use borrow.Author.Rules.{rules}
+use Rattle.tasks.proofs.ticker.Ticker.prepare.Goals as goal
+
+pub returns : goal.returns
+unfolding prepared_by
+returns c = λ k. record { place = c.places-place.ensures k; word = c.old_words-word.ensures k }

@@ -1,0 +1,15 @@
+use Prim.Native.Nat.{◌≤◌, ◌-◌}
+use mathlib.Core.Path.{refl, ◌∙◌}
+use lib.ListN.{get_or}
+use Rattle.lists.specs.Lists.{eight}
+use Rattle.tasks.specs.Ticker.{place_in, places_in}
+use Rattle.lists.proofs.Fill.{Filled, filled_start, filled_store, filled_end}
+use native.Mathlib.Omega.{arith}
+use borrow.Author.Rules.{rules}
+use Rattle.tasks.proofs.ticker.new_places.Given as goal
+
+abbrev pub invariant-loop-i : goal.invariant-loop-i
+invariant-loop-i l = (l.i ≤ 8) × Filled 0 (λ i. place_in l.bygap l.bywork (get_or l.kept i 0) (get_or l.base i 0) (get_or l.v i 0)) l.out l.i
+
+abbrev pub decreases-loop-i : goal.decreases-loop-i
+decreases-loop-i l = 8 - l.i

@@ -1,0 +1,17 @@
+use Prim.Native.Nat.{◌≤◌, ◌-◌}
+use mathlib.Core.Path.{refl}
+use lib.ListN.{get_or}
+use native.Mathlib.Omega.{arith}
+use Rattle.tasks.specs.Ticker.{old_word}
+use Rattle.lists.proofs.Fill.{Filled, filled_start, filled_store, filled_end}
+use borrow.Author.Rules.{rules}
+use Rattle.tasks.proofs.ticker.old_words.Goals as goal
+
+pub loop-i-init : goal.loop-i-init
+loop-i-init c = (omega arith, filled_start refl)
+
+pub loop-i-preserved : goal.loop-i-preserved
+loop-i-preserved c = (omega arith, filled_store c.loop-i.invariant.1 (omega arith) c.old_word.ensures)
+
+pub returns : goal.returns
+returns c = filled_end c.loop-i.invariant.1 c.loop-i-test.false

@@ -1,0 +1,17 @@
+use native.Mathlib.Omega.{arith}
+use Prim.Native.Nat.{◌≤◌, ◌-◌}
+use mathlib.Core.Path.{◌≡◌}
+use Rattle.lists.specs.Lists.{any}
+use Rattle.tasks.specs.State.{late}
+use Rattle.tasks.specs.Tick.{missed}
+use Rattle.tasks.specs.Words.{state_of}
+use Rattle.lists.proofs.Turns.{any_none, any_turn, any_end}
+use Rattle.tasks.proofs.InWords.{late-word}
+use borrow.Author.Rules.{rules}
+use Rattle.tasks.proofs.words.misses.Given as goal
+
+abbrev pub invariant-loop-i : goal.invariant-loop-i
+invariant-loop-i l = (l.i ≤ 8) × (l.found ≡ any l.i (late l.t (state_of l.v)))
+
+abbrev pub decreases-loop-i : goal.decreases-loop-i
+decreases-loop-i l = 8 - l.i

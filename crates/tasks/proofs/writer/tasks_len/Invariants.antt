@@ -1,0 +1,16 @@
+-- The invariant: the total so far and the length of the tasks that are left make the whole length. Assumes nothing.
+use Rattle.tasks.proofs.Sheets.{tasks_length, tasks_no_length}
+use Rattle.tasks.specs.Sheet.{tasks_bytes}
+use lib.ListN.{length}
+use mathlib.Core.Path.{◌≡◌, ap, ◌∙◌}
+use Prim.Native.Nat.{◌+◌, ◌-◌, ◌*◌, ◌≤◌}
+use native.Mathlib.Omega.{arith}
+use borrow.Author.Rules.{rules}
+use Rattle.tasks.proofs.writer.tasks_len.Given as goal
+
+abbrev pub invariant-loop-i : goal.invariant-loop-i
+invariant-loop-i l =
+    (l.i ≤ l.n) × (l.n ≤ 8) × (l.total ≤ 6 * l.i) × (length (tasks_bytes l.t l.n 0) ≡ l.total + length (tasks_bytes l.t (l.n - l.i) l.i))
+
+abbrev pub decreases-loop-i : goal.decreases-loop-i
+decreases-loop-i l = l.n - l.i
