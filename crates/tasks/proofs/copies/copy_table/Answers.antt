@@ -13,25 +13,25 @@ use Rattle.tasks.proofs.copies.copy_table.Goals as goal
 
 pub slice_bounds-out-end : goal.slice_bounds-out-end
 slice_bounds-out-end c =
-    let w = again_written c.args.t _ (omega arith) (record { work = search rules; deadline = search rules; gap = search rules }) _ (ap writing_answer (sym c.n-1.given.1) ∙ c.write_sheet.ensures.0) in
+    let w = again_written c.args.t _ (omega arith) (record { work = search rules; deadline = search rules; gap = search rules }) _ (ap writing_answer (sym c.in-Written.is) ∙ c.write_sheet.ensures.0) in
     let k : length c.write_sheet.new.1.0 ≡ 52 = c.write_sheet.auto.1.0 in
-    let h : c.n-1.given.0.0 ≤ length c.write_sheet.new.1.0 = omega (arith, w.0) in
+    let h : c.in-Written.n ≤ length c.write_sheet.new.1.0 = omega (arith, w.0) in
     h
 
 pub slice_bounds-read_sheet-end : goal.slice_bounds-read_sheet-end
 slice_bounds-read_sheet-end c =
-    let w = again_written c.args.t _ (omega arith) (record { work = search rules; deadline = search rules; gap = search rules }) _ (ap writing_answer (sym c.n-1.given.1) ∙ c.write_sheet.ensures.0) in
+    let w = again_written c.args.t _ (omega arith) (record { work = search rules; deadline = search rules; gap = search rules }) _ (ap writing_answer (sym c.in-Written.is) ∙ c.write_sheet.ensures.0) in
     let k : length c.write_sheet.new.1.0 ≡ 52 = c.write_sheet.auto.1.0 in
-    let h : c.n-1.given.0.0 ≤ length c.write_sheet.new.1.0 = omega (arith, w.0) in
-    sym (length-take-le c.n-1.given.0.0 c.write_sheet.new.1.0 h)
+    let h : c.in-Written.n ≤ length c.write_sheet.new.1.0 = omega (arith, w.0) in
+    sym (length-take-le c.in-Written.n c.write_sheet.new.1.0 h)
 
 pub returns-in-Refused : goal.returns-in-Refused
 returns-in-Refused c =
     sheet_told
-    (c.refused.ensures ∙ again_refused c.args.t _ (omega arith) _ (ap writing_answer (sym c.r-1.given.1) ∙ c.write_sheet.ensures.0))
+    (c.refused.ensures ∙ again_refused c.args.t _ (omega arith) _ (ap writing_answer (sym c.in-Refused.is) ∙ c.write_sheet.ensures.0))
 
 pub returns-in-Written : goal.returns-in-Written
 returns-in-Written c =
-    let w = again_written c.args.t _ (omega arith) (record { work = search rules; deadline = search rules; gap = search rules }) _ (ap writing_answer (sym c.n-1.given.1) ∙ c.write_sheet.ensures.0) in
+    let w = again_written c.args.t _ (omega arith) (record { work = search rules; deadline = search rules; gap = search rules }) _ (ap writing_answer (sym c.in-Written.is) ∙ c.write_sheet.ensures.0) in
     sheet_told
-    (sheet_is c.read_sheet.ensures ∙ ap (λ l. sheet_of (take c.n-1.given.0.0 l)) c.write_sheet.ensures.1 ∙ w.1)
+    (sheet_is c.read_sheet.ensures ∙ ap (λ l. sheet_of (take c.in-Written.n l)) c.write_sheet.ensures.1 ∙ w.1)

@@ -7,12 +7,12 @@ use Rattle.tasks.proofs.sheet.read_field.Goals as goal
 
 pub returns-then-v-low : goal.returns-then-v-low
 unfolding field_at
-returns-then-v-low c = let e = sym (number_is c.read_number.ensures) ∙ c.v-1.given.1 in rw (e, c.if-v-low.true)
+returns-then-v-low c = let e = sym (number_is c.read_number.ensures) ∙ c.in-Value.is in rw (e, c.if-v-low.true)
 
 pub returns-in-Refused : goal.returns-in-Refused
 unfolding field_at
-returns-in-Refused c = let e = sym (number_is c.read_number.ensures) ∙ c.r-1.given.1 in rw e
+returns-in-Refused c = let e = sym (number_is c.read_number.ensures) ∙ c.in-Refused.is in rw e
 
 pub returns-else-v-low : goal.returns-else-v-low
 unfolding field_at
-returns-else-v-low c = let e = sym (number_is c.read_number.ensures) ∙ c.v-1.given.1 in rw (e, c.if-v-low.false)
+returns-else-v-low c = let e = sym (number_is c.read_number.ensures) ∙ c.in-Value.is in rw (e, c.if-v-low.false)

@@ -9,20 +9,20 @@ use borrow.Author.Rules.{rules}
 use Rattle.tasks.proofs.sheet.read_header.Goals as goal
 
 -- the numbers that were read, each after the one before
-policy-read : (c : tie.After-policy) → field_at c.before.before.before.before.args.s.now c.before.before.before.before.args.at 0 last_policy 4 ≡ Value c.policy.given.0.0 c.policy.given.0.1.0
-policy-read c = sym c.before.before.read-field.ensures ∙ c.policy.given.1
+policy-read : (c : goal.In-Value-2) → field_at c.args.s.now c.args.at 0 last_policy 4 ≡ Value c.in-Value.policy c.in-Value.a
+policy-read c = sym c.read_field.ensures ∙ c.in-Value.is
 
-abbrev policy-place : tie.After-m → tie.After-policy
-policy-place c = c.before.before.before.before
+abbrev policy-place : goal.In-Value-read_field-3 → goal.In-Value-2
+policy-place c = c
 
-m-read : (c : tie.After-m) → field_at (policy-place c).before.before.before.before.args.s.now (policy-place c).policy.given.0.1.0 1 8 5 ≡ Value c.m.given.0.0 c.m.given.0.1.0
-m-read c = sym c.before.before.read-field2.ensures ∙ c.m.given.1
+m-read : (c : goal.In-Value-read_field-3) → field_at (policy-place c).args.s.now (policy-place c).policy.given.0.1.0 1 8 5 ≡ Value c.in-Value-read_field.m c.in-Value-read_field.b
+m-read c = sym c.read_field-in-Value.ensures ∙ c.in-Value-read_field.is
 
-abbrev m-place : tie.After-n → tie.After-m
-m-place c = c.before.before.before.before
+abbrev m-place : goal.In-Value-read_field-2-2 → goal.In-Value-read_field-3
+m-place c = c
 
-n-read : (c : tie.After-n) → field_at (policy-place (m-place c)).before.before.before.before.args.s.now (m-place c).m.given.0.1.0 1 8 6 ≡ Value c.n.given.0.0 c.n.given.0.1.0
-n-read c = sym c.before.before.read-field3.ensures ∙ c.n.given.1
+n-read : (c : goal.In-Value-read_field-2-2) → field_at (policy-place (m-place c)).args.s.now (m-place c).m.given.0.1.0 1 8 6 ≡ Value c.in-Value-read_field-2.n c.in-Value-read_field-2.next
+n-read c = sym c.read_field-in-Value-read_field.ensures ∙ c.in-Value-read_field-2.is
 
 pub overflow_cast-policy : goal.overflow_cast-policy
 overflow_cast-policy c =
@@ -43,19 +43,19 @@ read_tasks-requires c =
 pub returns-in-Refused : goal.returns-in-Refused
 unfolding from_policy
 returns-in-Refused c =
-    let e = sym c.read_field.ensures ∙ c.r-1.given.1 in
+    let e = sym c.read_field.ensures ∙ c.in-Refused.is in
     rw e c.refused.ensures
 
 pub returns-in-Refused-read_field : goal.returns-in-Refused-read_field
 unfolding from_policy
 returns-in-Refused-read_field c =
-    let f = sym c.read_field-in-Value.ensures ∙ c.r-in-Refused-read_field-2-1.given.1 in
+    let f = sym c.read_field-in-Value.ensures ∙ c.in-Refused-read_field.is in
     rw (policy-read c, f) c.refused-in-Refused-read_field.ensures
 
 pub returns-in-Refused-read_field-2 : goal.returns-in-Refused-read_field-2
 unfolding from_policy
 returns-in-Refused-read_field-2 c =
-    let g = sym c.read_field-in-Value-read_field.ensures ∙ c.r-in-Refused-read_field-3-1.given.1 in
+    let g = sym c.read_field-in-Value-read_field.ensures ∙ c.in-Refused-read_field-2.is in
     rw (policy-read (policy-place c), m-read c, g) c.refused-in-Refused-read_field-2.ensures
 
 pub returns-in-Value-read_field-2 : goal.returns-in-Value-read_field-2

@@ -7,8 +7,8 @@ use Rattle.tasks.proofs.sheet.read_sheet.Goals as goal
 
 pub returns-in-Refused : goal.returns-in-Refused
 unfolding sheet_of
-returns-in-Refused c = let e = sym c.read_field.ensures ∙ c.r-1.given.1 in sheet_told (rw e c.refused.ensures)
+returns-in-Refused c = let e = sym c.read_field.ensures ∙ c.in-Refused.is in sheet_told (rw e c.refused.ensures)
 
 pub returns-in-Value : goal.returns-in-Value
 unfolding sheet_of
-returns-in-Value c = let e = sym c.read_field.ensures ∙ c.next-1.given.1 in sheet_told (rw e c.read_header.ensures)
+returns-in-Value c = let e = sym c.read_field.ensures ∙ c.in-Value.is in sheet_told (rw e c.read_header.ensures)

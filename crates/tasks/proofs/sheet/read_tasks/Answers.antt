@@ -47,7 +47,7 @@ loop-i-init c =
 pub returns-in-Refused : goal.returns-in-Refused
 unfolding from_tasks
 returns-in-Refused c =
-    let e = sym c.read_task.ensures ∙ c.r-1.given.1 in
+    let e = sym c.read_task.ensures ∙ c.in-Refused.is in
     c.refused.ensures ∙ sym (rw c.empty_table-t.ensures at (c.loop-i.invariant.2 ∙ tasks-refused _ c.loop-i.i _ _ _ _ c.loop-i-test.true e))
 
 pub loop-i-smaller : goal.loop-i-smaller
@@ -55,7 +55,7 @@ loop-i-smaller c = omega (arith, c.loop-i-test.true)
 
 pub loop-i-preserved : goal.loop-i-preserved
 loop-i-preserved c =
-    let e = sym c.read_task.ensures ∙ c.task-1.given.1 in
+    let e = sym c.read_task.ensures ∙ c.in-Read.is in
     (omega (arith, c.loop-i.invariant.0, c.loop-i-test.true), c.loop-i.invariant.1, c.loop-i.invariant.2 ∙ rw c.with_task-t.ensures (tasks-turn _ c.loop-i.i _ _ _ _ _ c.loop-i-test.true e))
 
 pub returns-then-at-s : goal.returns-then-at-s

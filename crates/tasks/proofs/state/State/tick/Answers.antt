@@ -8,8 +8,8 @@ use borrow.Author.Rules.{rules}
 use Rattle.tasks.proofs.state.State.tick.Goals as goal
 
 -- nothing refused the tick
-passed : (c : tie.Else1) → refusal c.before.before.args.t c.before.before.args.self c.before.before.args.mask ≤ 0
-passed c = rw c.before.refusal.ensures at c.if1.false
+passed : (c : goal.Else-why-gt0) → refusal c.args.t c.args.self c.args.mask ≤ 0
+passed c = rw c.refusal-why.ensures at c.if-why-gt0.false
 
 pub returns-then-why-gt0 : goal.returns-then-why-gt0
 returns-then-why-gt0 c =

@@ -11,11 +11,11 @@ use borrow.Author.Rules.{rules}
 use Rattle.tasks.proofs.table.Table.fault.Goals as goal
 
 -- the policy that the test reads is the table's
-above : (c : tie.After-outside2) → last_policy < c.before.before.wide.result → ltb last_policy c.before.before.before.args.self.policy ≡ true
-above c h = lt-ltb last_policy c.before.before.before.args.self.policy (omega (arith, c.before.before.wide.ensures.0))
+above : (c : goal.After-outside-n) → last_policy < c.wide-policy.result → ltb last_policy c.args.self.policy ≡ true
+above c h = lt-ltb last_policy c.args.self.policy (omega (arith, c.wide-policy.ensures.0))
 
-within : (c : tie.After-outside2) → c.before.before.wide.result ≤ last_policy → ltb last_policy c.before.before.before.args.self.policy ≡ false
-within c h = le-ltb last_policy c.before.before.before.args.self.policy (omega (arith, c.before.before.wide.ensures.0))
+within : (c : goal.After-outside-n) → c.wide-policy.result ≤ last_policy → ltb last_policy c.args.self.policy ≡ false
+within c h = le-ltb last_policy c.args.self.policy (omega (arith, c.wide-policy.ensures.0))
 
 pub returns-then-policy-gt-LAST_POLICY : goal.returns-then-policy-gt-LAST_POLICY
 unfolding table_fault
