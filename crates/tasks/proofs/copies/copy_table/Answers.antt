@@ -14,16 +14,16 @@ use Rattle.tasks.proofs.copies.copy_table.Goals as goal
 pub slice_bounds-out-end : goal.slice_bounds-out-end
 slice_bounds-out-end c =
     let w = again_written c.args.t _ (omega arith) (record { work = search rules; deadline = search rules; gap = search rules }) _ (ap writing_answer (sym c.in-Written.is) ∙ c.write_sheet.ensures.0) in
-    let k : length c.write_sheet.new.1.0 ≡ 52 = c.write_sheet.auto.1.0 in
-    let h : c.in-Written.n ≤ length c.write_sheet.new.1.0 = omega (arith, w.0) in
+    let k : length c.write_sheet.new.out ≡ 52 = c.write_sheet.auto.out in
+    let h : c.in-Written.n ≤ length c.write_sheet.new.out = omega (arith, w.0) in
     h
 
 pub slice_bounds-read_sheet-end : goal.slice_bounds-read_sheet-end
 slice_bounds-read_sheet-end c =
     let w = again_written c.args.t _ (omega arith) (record { work = search rules; deadline = search rules; gap = search rules }) _ (ap writing_answer (sym c.in-Written.is) ∙ c.write_sheet.ensures.0) in
-    let k : length c.write_sheet.new.1.0 ≡ 52 = c.write_sheet.auto.1.0 in
-    let h : c.in-Written.n ≤ length c.write_sheet.new.1.0 = omega (arith, w.0) in
-    sym (length-take-le c.in-Written.n c.write_sheet.new.1.0 h)
+    let k : length c.write_sheet.new.out ≡ 52 = c.write_sheet.auto.out in
+    let h : c.in-Written.n ≤ length c.write_sheet.new.out = omega (arith, w.0) in
+    sym (length-take-le c.in-Written.n c.write_sheet.new.out h)
 
 pub returns-in-Refused : goal.returns-in-Refused
 returns-in-Refused c =

@@ -7,10 +7,6 @@ use Rattle.tasks.proofs.Answered.{ticked_refused, ticked-missed, ticked-next}
 use borrow.Author.Rules.{rules}
 use Rattle.tasks.proofs.state.State.tick.Goals as goal
 
--- nothing refused the tick
-passed : (c : goal.Else-why-gt0) → refusal c.args.t c.args.self c.args.mask ≤ 0
-passed c = rw c.refusal-why.ensures at c.if-why-gt0.false
-
 pub returns-then-why-gt0 : goal.returns-then-why-gt0
 returns-then-why-gt0 c =
     let a = c.args in
@@ -22,7 +18,7 @@ pub returns-then-missed : goal.returns-then-missed
 returns-then-missed c =
     let a = c.args in
     let e = c.advance-next.ensures in
-    let none = passed c in
+    let none = rw c.refusal-why.ensures at c.if-why-gt0.false in
     let miss = sym c.missed.ensures ∙ c.if-missed.true in
     tick_told (c.answered-then-missed.ensures ∙ ap (answered Missed) e ∙ ticked-missed a.t a.self a.mask none (rw e at miss))
 
@@ -30,6 +26,6 @@ pub returns : goal.returns
 returns c =
     let a = c.args in
     let e = c.advance-next.ensures in
-    let none = passed c in
+    let none = rw c.refusal-why.ensures at c.if-why-gt0.false in
     let miss = sym c.missed.ensures ∙ c.if-missed.false in
     tick_told (c.answered-2.ensures ∙ ap (answered Next) e ∙ ticked-next a.t a.self a.mask none (rw e at miss))

@@ -1,6 +1,6 @@
 -- The first test that holds picks the refusal. Assumes nothing.
 use Rattle.lists.proofs.Picks.{pick_yes, pick_no}
-use Prim.Native.Nat.{◌<◌, ◌≤◌}
+use Prim.Native.Nat.{ℕ, ◌<◌, ◌≤◌}
 use mathlib.Core.Path.{◌≡◌, sym, ◌∙◌, refl}
 use mathlib.Core.Bool.{true, false}
 use native.Mathlib.Omega.{arith}
@@ -11,32 +11,32 @@ use borrow.Author.Rules.{rules}
 use Rattle.tasks.proofs.table.Table.fault.Goals as goal
 
 -- the policy that the test reads is the table's
-above : (c : goal.After-outside-n) → last_policy < c.wide-policy.result → ltb last_policy c.args.self.policy ≡ true
-above c h = lt-ltb last_policy c.args.self.policy (omega (arith, c.wide-policy.ensures.0))
+above : (policy w : ℕ) → w ≡ policy → last_policy < w → ltb last_policy policy ≡ true
+above policy w e h = lt-ltb last_policy policy (omega arith)
 
-within : (c : goal.After-outside-n) → c.wide-policy.result ≤ last_policy → ltb last_policy c.args.self.policy ≡ false
-within c h = le-ltb last_policy c.args.self.policy (omega (arith, c.wide-policy.ensures.0))
+within : (policy w : ℕ) → w ≡ policy → w ≤ last_policy → ltb last_policy policy ≡ false
+within policy w e h = le-ltb last_policy policy (omega arith)
 
 pub returns-then-policy-gt-LAST_POLICY : goal.returns-then-policy-gt-LAST_POLICY
 unfolding table_fault
-returns-then-policy-gt-LAST_POLICY c = pick_yes _ (above c c.if-policy-gt-LAST_POLICY.true)
+returns-then-policy-gt-LAST_POLICY c = pick_yes _ (above _ _ c.wide-policy.ensures.0 c.if-policy-gt-LAST_POLICY.true)
 
 pub returns-then-m : goal.returns-then-m
 unfolding table_fault
 returns-then-m c =
-    pick_no _ (within c c.if-policy-gt-LAST_POLICY.false) (pick_yes _ (sym c.outside-m.ensures ∙ c.if-m.true))
+    pick_no _ (within _ _ c.wide-policy.ensures.0 c.if-policy-gt-LAST_POLICY.false) (pick_yes _ (sym c.outside-m.ensures ∙ c.if-m.true))
 
 pub returns-then-n : goal.returns-then-n
 unfolding table_fault
 returns-then-n c =
-    pick_no _ (within c c.if-policy-gt-LAST_POLICY.false)
+    pick_no _ (within _ _ c.wide-policy.ensures.0 c.if-policy-gt-LAST_POLICY.false)
     (pick_no _ (sym c.outside-m.ensures ∙ c.if-m.false)
     (pick_yes _ (sym c.outside-n.ensures ∙ c.if-n.true)))
 
 pub returns-then-any_fault : goal.returns-then-any_fault
 unfolding table_fault
 returns-then-any_fault c =
-    pick_no _ (within c c.if-policy-gt-LAST_POLICY.false)
+    pick_no _ (within _ _ c.wide-policy.ensures.0 c.if-policy-gt-LAST_POLICY.false)
     (pick_no _ (sym c.outside-m.ensures ∙ c.if-m.false)
     (pick_no _ (sym c.outside-n.ensures ∙ c.if-n.false)
     (pick_yes _ (sym c.any_fault.ensures ∙ c.if-any_fault.true))))
@@ -44,7 +44,7 @@ returns-then-any_fault c =
 pub returns : goal.returns
 unfolding table_fault
 returns c =
-    pick_no _ (within c c.if-policy-gt-LAST_POLICY.false)
+    pick_no _ (within _ _ c.wide-policy.ensures.0 c.if-policy-gt-LAST_POLICY.false)
     (pick_no _ (sym c.outside-m.ensures ∙ c.if-m.false)
     (pick_no _ (sym c.outside-n.ensures ∙ c.if-n.false)
     (pick_no _ (sym c.any_fault.ensures ∙ c.if-any_fault.false) refl)))
