@@ -14,15 +14,17 @@ import sys
 
 WORD = re.compile(r"[^\s(){}.;,@\"«»\[\]`]+")
 DECLARED = re.compile(
-    r"^\s*(?:(?:abbrev|pub|opaque|unfoldable)\s+)*([^\s(){}.;,@\"«»]+)(?:\s*\{[^{}\n]*\}|\s*\([^()\n]*\))*\s*:\s(.*)$"
+    r"^\s*(?:(?:abbrev|pub|opaque|unfoldable)\s+)*([^\s(){}.;,@\"«»]+)(?:\s*\{[^{}\n]*\}|\s*\([^()\n]*\))*\s*:(?:\s(.*))?$"
 )
 CLAUSE = re.compile(r"(?:requires|ensures)\s*\*?\s*(?:\w+\s*)?\{|ghost\s+use\b[^;]*;|ghost\s*(?:\w+\s*(?::\s*)?)?\{")
 # Lemmas whose plain snake case a definition has: the definition keeps it.
 LEMMAS = """age-in before-in bit-or bool-byte bytes-from earlier-in free-by key-from miss-by place-in runs-in same-numbers same-states
-sheet-refusal state-bytes state-in step-tick table-again table-fault table-refusal task-of tasks-bytes tight-job unless-refused""".split()
-# Lemmas that port.py spelled so, as a definition is to be spelled.
-TURNED = "four_bytes full_by key_in mark_set place_at".split()
-OTHER = {it: it.replace("-", "_") + "_lem" for it in LEMMAS + TURNED}
+sheet-refusal state-bytes state-in step-tick table-again table-fault table-refusal task-at task-of tasks-bytes tight-job unless-refused write-out""".split()
+# Lemmas that port.py spelled so, as a definition is to be spelled: they turn as long as the definition has its old spelling.
+TURNED = {"four_bytes": "fourBytes", "full_by": "fullBy", "key_in": "keyIn", "mark_set": "markSet", "place_at": "placeAt"}
+# The files of a function's proof, in which goals have names of Rattle's own.
+OF_FUNCTIONS = ("Proof.antt", "Answers.antt", "Invariants.antt")
+OTHER = {it: it.replace("-", "_") + "_lem" for it in LEMMAS + list(TURNED)}
 
 
 def texts(top):
@@ -53,11 +55,13 @@ def declared(paths):
     for path in paths:
         if not path.endswith(".antt"):
             continue
-        for line in read(path).splitlines():
+        lines = read(path).splitlines() + [""]
+        for i, line in enumerate(lines):
             found = DECLARED.match(line)
             if not found or line.lstrip().startswith("--") or not is_odd(found[1]):
                 continue
-            if os.path.basename(path) == "Proof.antt" and ("tie." in found[2] or "statement" in found[2]):
+            said = found[2] or lines[i + 1]
+            if os.path.basename(path) in OF_FUNCTIONS and ("tie." in said or "goal." in said or "statement" in said):
                 continue
             names.add(found[1])
     return names
@@ -156,7 +160,9 @@ def meetings(paths, table):
 def main(argv):
     top = os.getcwd()
     paths = list(texts(top))
-    table = {it: snake(it) for it in declared(paths) | set(TURNED)}
+    names = declared(paths)
+    names |= {it for it, old in TURNED.items() if old in names}
+    table = {it: snake(it) for it in names}
     met = {it: olds for it, olds in meetings(paths, table).items() if it not in TURNED}
     for it in sorted(met):
         print(it, sorted(met[it]))

@@ -14,7 +14,7 @@ use Rattle.tasks.specs.Tick.{illegal, after, missed}
 use Rattle.tasks.specs.declared.table.Table.{Table}
 use Rattle.tasks.specs.declared.tick.TickAnswer.TheVariants as Answer
 use Rattle.lists.proofs.Bools.{by_bool}
-use Rattle.tasks.proofs.Answered.{ticked-legal}
+use Rattle.tasks.proofs.Answered.{ticked_legal}
 use Rattle.states.specs.Keys.{key_of}
 use Rattle.states.proofs.MaskLaws.{legal_submask}
 use Rattle.states.proofs.SystemLaws.{step_missed}
@@ -31,7 +31,7 @@ module _ (t : Table) (file : List ℕ) (valid : table_fault t ≡ 0) where
   -- LAW: in a closed file the state after a legal mask is in the file
   pub closed_after : (i m : ℕ) → i < states_in file → m < 256 → illegal t (state_in file i) m ≡ false → Closed t file → Contains file (after t (state_in file i) m)
   closed_after i m h b legal x =
-      let e = ticked-legal t (state_in file i) m valid (x.proper i h) legal in
+      let e = ticked_legal t (state_in file i) m valid (x.proper i h) legal in
       rw (ap (λ r. r.state) e) at (x.leads i m h b legal).contained
 
   -- LAW: sound states, the start state among them, and every pair inside: the file is closed
@@ -50,7 +50,7 @@ module _ (t : Table) (file : List ℕ) (valid : table_fault t ≡ 0) where
 
       leads : (i m : ℕ) → i < states_in file → m < 256 → illegal t (state_in file i) m ≡ false → Leads t file (state_in file i) m
       leads i m h b legal =
-          let e = ticked-legal t (state_in file i) m valid (sound.state i h).proper legal in
+          let e = ticked_legal t (state_in file i) m valid (sound.state i h).proper legal in
           record {
             next = ap (λ r. r.answer) e ∙ ap (λ b. pick b Answer.Missed Answer.Next) (calm i m h b legal);
             contained = rw (ap (λ r. r.state) e) (x.inside i m h b legal tt);
@@ -58,9 +58,9 @@ module _ (t : Table) (file : List ℕ) (valid : table_fault t ≡ 0) where
 
 module _ (t : Table) (file : List ℕ) where
   -- pairs of either kind
-  inside-either :
+  inside_either :
       {D E F : ℕ → ℕ → Type 0} → Inside t file D → Inside t file E → ((i m : ℕ) → i < states_in file → F i m → D i m ⊎ E i m) → Inside t file F
-  inside-either x y f = record { inside = λ i m h b legal d. ⊎_elim (λ q. x.inside i m h b legal q) (λ q. y.inside i m h b legal q) (f i m h d) }
+  inside_either x y f = record { inside = λ i m h b legal d. ⊎_elim (λ q. x.inside i m h b legal q) (λ q. y.inside i m h b legal q) (f i m h d) }
 
   inside_none : {D : ℕ → ℕ → Type 0} → ((i m : ℕ) → i < states_in file → D i m → ⊥) → Inside t file D
   inside_none f = record { inside = λ i m h b legal d. absurd (f i m h d) }
@@ -80,7 +80,7 @@ module _ (t : Table) (file : List ℕ) where
     rows_start = inside_none (λ i m h d. let b = d.below in omega arith)
 
     pub rows_next : {i : ℕ} → Inside t file (RowsTo i) → Inside t file (RowOf t file split pass i) → Inside t file (RowsTo (i + 1))
-    rows_next {i} x y = inside-either x y (λ j m h d. go j m d (ℕ_discrete j i))
+    rows_next {i} x y = inside_either x y (λ j m h d. go j m d (ℕ_discrete j i))
       where
         go : (j m : ℕ) → RowsTo (i + 1) j m → Dec (j ≡ i) → RowsTo i j m ⊎ RowOf t file split pass i j m
         go j m d (yes e) = inr (record { is = e; due = d.due })
@@ -99,9 +99,9 @@ module _ (t : Table) (file : List ℕ) where
     pub classes_start : Inside t file (ClassesTo 0)
     classes_start = inside_none (λ i m h d. let b = d.below in omega arith)
 
-    pub classes-next :
+    pub classes_next :
         {class : ℕ} → Inside t file (ClassesTo class) → Inside t file (Due t file split (record { low = low; high = high; classes = classes; class = class })) → Inside t file (ClassesTo (class + 1))
-    classes-next {class} x y = inside-either x y (λ i m h d. go i m d (ℕ_discrete (class_of classes (key_of (after t (state_in file i) m))) class))
+    classes_next {class} x y = inside_either x y (λ i m h d. go i m d (ℕ_discrete (class_of classes (key_of (after t (state_in file i) m))) class))
       where
         go :
             (i m : ℕ) → ClassesTo (class + 1) i m → Dec (class_of classes (key_of (after t (state_in file i) m)) ≡ class)
@@ -122,7 +122,7 @@ module _ (t : Table) (file : List ℕ) where
     bands_start = inside_none (λ i m h d. let b = d.below in omega arith)
 
     pub bands_next : {low high : ℕ} → Inside t file (BandsTo low) → Inside t file (Between file split low high) → Inside t file (BandsTo high)
-    bands_next {low} {high} x y = inside-either x y (λ i m h d. go i m d (dec_lt (lands file split i m) low))
+    bands_next {low} {high} x y = inside_either x y (λ i m h d. go i m d (dec_lt (lands file split i m) low))
       where
         go : (i m : ℕ) → BandsTo high i m → Dec (lands file split i m < low) → BandsTo low i m ⊎ Between file split low high i m
         go i m d (yes l) = inl (record { below = l })

@@ -72,10 +72,10 @@ module _ (p : List ℕ) (at a b c d : ℕ) where
     four_d : get_or four_set (at + 3) 0 ≡ d
     four_d = get_or-set_same three_set (at + 3) d 0 (let e = three_long in omega arith)
 
-pub key-put :
+pub key_put :
     (p : List ℕ) (k : ℕ) (key : Key) → 4 * k + 4 ≤ length p → Added key p k (four_set p (4 * k) key.a key.b key.c key.d)
 unfolding key_at
-key-put p k key h = record {
+key_put p k key h = record {
   grown = record {
     same = four_long p (4 * k) key.a key.b key.c key.d;
     up = omega arith;
@@ -99,18 +99,18 @@ key-put p k key h = record {
 pub grown_not : {p : List ℕ} {count : ℕ} → Grown p count p count
 grown_not = record { same = refl; up = omega arith; first = λ k h. refl }
 
-pub grown-next :
+pub grown_next :
     {p q r : List ℕ} {count next last : ℕ} → Grown p count q next → Grown q next r last → Grown p count r last
-grown-next x y = record {
+grown_next x y = record {
   same = y.same ∙ x.same;
   up = (let a = x.up in let b = y.up in omega arith);
   first = λ k h. y.first k (let a = x.up in omega arith) ∙ x.first k h;
 }
 
 -- the first keys are held where all are
-pub held-before :
+pub held_before :
     {file p q : List ℕ} {n count next : ℕ} → Grown p count q next → AllHeld file n q next → AllHeld file n p count
-held-before x y = record { each = λ k h. rw (x.first k h) at (y.each k (let a = x.up in omega arith)) }
+held_before x y = record { each = λ k h. rw (x.first k h) at (y.each k (let a = x.up in omega arith)) }
 
 pub held_none : {file p : List ℕ} {n : ℕ} → AllHeld file n p 0
 held_none = record { each = λ k h. absurd (omega arith) }
@@ -154,12 +154,12 @@ module _ (t : Table) (file : List ℕ) (n : ℕ) where
     pub waiting_start : (pending : List ℕ) → Waiting (RowsTo t file split pass 0) pending 0
     waiting_start pending = record { from = λ k h. absurd (omega arith); inside = λ all. rows_start t file split pass }
 
-    pub waiting-next :
+    pub waiting_next :
         {i : ℕ} {p q : List ℕ} {count next : ℕ} → Waiting (RowsTo t file split pass i) p count
         → RowWaits t file n (RowOf t file split pass i) p count q next → Waiting (RowsTo t file split pass (i + 1)) q next
-    waiting-next {i} {p} {q} {count} {next} x y = record {
+    waiting_next {i} {p} {q} {count} {next} x y = record {
       from = λ k h. go k h (dec_lt k count);
-      inside = λ all. rows_next t file split pass (x.inside (held-before y.grown all)) (y.inside all);
+      inside = λ all. rows_next t file split pass (x.inside (held_before y.grown all)) (y.inside all);
     }
       where
         go : (k : ℕ) → k < next → Dec (k < count) → From t file (key_at q k)
@@ -174,6 +174,6 @@ module _ (t : Table) (file : List ℕ) (n : ℕ) where
   closed_held valid e c key x =
       rw (x.is, e) (held_key file (after t (state_in file x.state) x.mask) (closed_after t file valid x.state x.mask x.below x.small x.legal c))
 
-  pub waiting-open :
+  pub waiting_open :
       {D : ℕ → ℕ → Type 0} {p : List ℕ} {count : ℕ} → table_fault t ≡ 0 → n ≡ states_in file → Waiting D p count → (AllHeld file n p count → ⊥) → Closed t file → ⊥
-  waiting-open {D} {p} valid e x none c = none (record { each = λ k h. closed_held valid e c (key_at p k) (x.from k h) })
+  waiting_open {D} {p} valid e x none c = none (record { each = λ k h. closed_held valid e c (key_at p k) (x.from k h) })

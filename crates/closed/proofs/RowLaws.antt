@@ -41,7 +41,7 @@ use Rattle.closed.specs.Keeping.{class_of, landing, lands, Due, RowOf, SoundStat
 use Rattle.closed.specs.declared.passes.Split.{Split}
 use Rattle.closed.specs.declared.passes.Pass.{Pass}
 use Rattle.closed.proofs.Theorems.{closed_calm}
-use Rattle.closed.proofs.PendingLaws.{grown_not, grown-next, held-before}
+use Rattle.closed.proofs.PendingLaws.{grown_not, grown_next, held_before}
 
 -- ---- the masks of a state
 
@@ -73,7 +73,7 @@ module _ {ticker : Ticker} {file : List ℕ} {n : ℕ} {split : Split} {pass : P
       → due ≡ pick (eqb (bit_and m split.bit) 0) kept released → ((k : ℕ) → Fits w8 (get_or file k 0))
       → AfterWaits pass due (state_of (ticked_by ticker state m)) q next r last → RowTo ticker file n split pass kept released state free p count r last (follows free m)
   row_next {p} {q} {r} {count} {next} {last} {m} x b due fits y = record {
-    grown = grown-next x.grown y.grown;
+    grown = grown_next x.grown y.grown;
     from = λ k l h. go k l h (dec_lt k next);
     walked = walked_next (Led ticker file n split pass kept released state r last) small passed b (λ d c all. y.held (due ∙ d) c file n fits all);
   }
@@ -86,7 +86,7 @@ module _ {ticker : Ticker} {file : List ℕ} {n : ℕ} {split : Split} {pass : P
       passed = record {
         most = x.walked.most;
         is = x.walked.is;
-        each = λ j l e d c all. x.walked.each j l e d c (held-before y.grown all);
+        each = λ j l e d c all. x.walked.each j l e d c (held_before y.grown all);
       }
 
 abbrev in_pass : Pass → ℕ → Bool
@@ -101,28 +101,28 @@ pub record Row (t : Table) (ticker : Ticker) (file : List ℕ) (split : Split) (
 
 -- a pair that is due
 module _ (t : Table) (file : List ℕ) (split : Split) (pass : Pass) (i : ℕ) {kept released : Bool} where
-  due-yes :
+  due_yes :
       kept ≡ in_pass pass (landing split.top (get_or file (16 * i + 2 * split.task + 1) 0) false)
       → released ≡ in_pass pass (landing split.top (get_or file (16 * i + 2 * split.task + 1) 0) true)
       → (m : ℕ) → Due t file split pass i m → pick (eqb (bit_and m split.bit) 0) kept released ≡ true
   unfolding lands
-  due-yes k r m d =
+  due_yes k r m d =
       let is : in_pass pass (lands file split i m) ≡ true = both (le-leb _ _ d.low) (lt-ltb _ _ d.high) in
       by_bool (eqb (bit_and m split.bit) 0)
       (λ e. rw (e, k) (rw e at is))
       (λ e. rw (e, r) (rw e at is))
 
   -- no mask is due
-  pub row-skipped :
+  pub row_skipped :
       kept ≡ in_pass pass (landing split.top (get_or file (16 * i + 2 * split.task + 1) 0) false)
       → released ≡ in_pass pass (landing split.top (get_or file (16 * i + 2 * split.task + 1) 0) true)
       → kept || released ≡ false → (n : ℕ) (p : List ℕ) (count : ℕ) → RowWaits t file n (RowOf t file split pass i) p count p count
-  row-skipped k r none n p count = record {
+  row_skipped k r none n p count = record {
     grown = grown_not;
     from = λ j l h. absurd (omega arith);
     inside = λ all. record {
       inside = λ j m h b legal d.
-          let due = due-yes k r m (rw d.is at d.due) in
+          let due = due_yes k r m (rw d.is at d.due) in
           absurd (by_bool (eqb (bit_and m split.bit) 0)
           (λ e. clash (rw e at due) (nor_left kept released none))
           (λ e. clash (rw e at due) (nor_right kept released none)));
@@ -153,7 +153,7 @@ module _ {t : Table} {ticker : Ticker} {file : List ℕ} {split : Split} {pass :
       inside = λ j q h b legal d.
           let here : illegal t (state_in file i) q ≡ false = rw d.is at legal in
           let due = rw d.is at d.due in
-          let held = w.walked.each q (omega arith) (rw x.frees (legal_submask t (state_in file i) q here)) (due-yes t file split pass i x.keeps x.releases q due) (rw (x.ticks q) due.class) all in
+          let held = w.walked.each q (omega arith) (rw x.frees (legal_submask t (state_in file i) q here)) (due_yes t file split pass i x.keeps x.releases q due) (rw (x.ticks q) due.class) all in
           rw (d.is, ← is) (rw (x.ticks q) at held);
     };
   }
@@ -178,11 +178,11 @@ not_sound t file {i} e h bad x =
     bad (record { proper = x.proper i (omega arith); calm = closed_calm x (record { place = i; below = omega arith; same = refl }) })
 
 -- a state is sound or not, as its full mask misses or not
-pub full-sound :
+pub full_sound :
     (t : Table) (s : State) (r : Bool) → table_fault t ≡ 0 → (proper : improper t s ≡ false) → (r ≡ true → Calm (system t) s)
     → (r ≡ false → missed t (after t s (free_mask t s)) ≡ true) → StateIs t s r
-full-sound t s true valid proper calm miss = record { proper = proper; calm = calm refl }
-full-sound t s false valid proper calm miss = λ x.
+full_sound t s true valid proper calm miss = record { proper = proper; calm = calm refl }
+full_sound t s false valid proper calm miss = λ x.
     let full = free_mask t s in
     x.calm full (after t s full)
     (step_missed t valid s proper full (free_small t s) (legal_submask t s full (full_legal t s full (free_full t s))) (miss refl))
@@ -190,6 +190,6 @@ full-sound t s false valid proper calm miss = λ x.
 -- ---- the cells
 
 -- other cells, as many
-pub ready-cells :
+pub ready_cells :
     {t : Table} {ticker : Ticker} {file cells cells' : List ℕ} {n : ℕ} → Ready t ticker file cells n → length cells' ≡ length cells → Ready t ticker file cells' n
-ready-cells x e = record { given = x.given; made = x.made; sound = x.sound; some = (let s = x.some in omega arith) }
+ready_cells x e = record { given = x.given; made = x.made; sound = x.sound; some = (let s = x.some in omega arith) }

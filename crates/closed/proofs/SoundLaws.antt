@@ -142,11 +142,11 @@ module _ (t : Table) (s : State) where
       (or_left (not_preempted t && ltb t.m (count 8 (started t s)))
       (or_right (ltb 0 (count 8 (work_above t s))) (lt-ltb 0 (count 8 (gap_above t s)) (omega arith))))
 
-  pub exceeds-kept :
+  pub exceeds_kept :
       {x y n : ℕ} → x ≡ count 8 (work_above t s) → x ≤ 0 → y ≡ count 8 (gap_above t s) → y ≤ 0 → n ≡ count 8 (started t s)
       → not_preempted t && ltb t.m n ≡ exceeds t s
   unfolding exceeds
-  exceeds-kept {x} {y} {n} ex hx ey hy en =
+  exceeds_kept {x} {y} {n} ex hx ey hy en =
       rw (le-ltb 0 (count 8 (work_above t s)) (omega arith), le-ltb 0 (count 8 (gap_above t s)) (omega arith), en)
 
   -- LAW: a state of a valid table that exceeds nothing and has no late job is proper

@@ -13,7 +13,7 @@ use mir.Val.{Fits, bool_byte}
 use borrow.Author.Tests.{eq-eqb, ne_eqb, ltb-true, ltb-false, lt-ltb, le-ltb}
 use Rattle.lists.specs.Lists.{eight, pick, count}
 use Rattle.lists.proofs.Bools.{by_bool, clash, and_left, and_right, both, or_right, not_yes, not_no}
-use Rattle.lists.proofs.Counts.{count_mono, count_same, count_less, count-one-more, least_of}
+use Rattle.lists.proofs.Counts.{count_mono, count_same, count_less, count_one_more, least_of}
 use Rattle.lists.proofs.Fill.{eight_at}
 use Rattle.lists.proofs.Turns.{count_turn, count_room}
 use Rattle.cores.specs.Walk.{under, capped, sooner, leads, rank, kept_count, ready_count, taken}
@@ -201,10 +201,10 @@ module _ (places : List ℕ) where
       (λ b. rw (b, e, lt-ltb c (c + 1) (omega arith)) (or_right (under places 1 i) refl))
       (λ b. absurd (omega (arith, ready_below i h b)))
 
-  pub step-taken :
+  pub step_taken :
       (c i : ℕ) → i < 8 → c < ready_count places
       → ◌≡◌ {A = ℕ} (pick (eqb (rank places 8 i) c) 1 (pick (taken places c i) 1 0)) (pick (taken places (c + 1) i) 1 0)
-  step-taken c i h l =
+  step_taken c i h l =
       elim (ℕ_discrete (rank places 8 i) c) [
         | yes e ↦ rw (eq-eqb (rank places 8 i) c e, next_taken c i h l e)
         | no d ↦ rw (ne_eqb (rank places 8 i) c d, same_taken c i d)
@@ -285,7 +285,7 @@ module _ (places : List ℕ) where
 
     one_more : c ≡ count 8 (taken places c) → c < ready_count places → c + 1 ≡ count 8 (taken places (c + 1))
     one_more n l =
-        let e = count-one-more (taken places c) (taken places (c + 1)) x 8 h (alone n) x_not (next_taken c x h l (x_rank ∙ sym n)) in
+        let e = count_one_more (taken places c) (taken places (c + 1)) x 8 h (alone n) x_not (next_taken c x h l (x_rank ∙ sym n)) in
         omega arith
 
   -- where c processors have c tasks and one more waits, c + 1 have c + 1

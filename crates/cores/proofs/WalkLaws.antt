@@ -12,7 +12,7 @@ use Rattle.lists.proofs.Bools.{by_bool}
 use Rattle.lists.proofs.Counts.{count_same}
 use Rattle.lists.proofs.Fill.{eight_at, eight_same}
 use Rattle.cores.specs.Walk.{under, rank, kept_count, ready_count, taken, served, tasks_in, most_of, Walked}
-use Rattle.cores.proofs.RankLaws.{rank_read, few_taken, all_taken, step-taken, number_taken}
+use Rattle.cores.proofs.RankLaws.{rank_read, few_taken, all_taken, step_taken, number_taken}
 
 -- ---- tests as numbers
 
@@ -91,18 +91,18 @@ module _ (places : List ℕ) (m : ℕ) where
 
   -- ---- a step
 
-  step-served :
+  step_served :
       {ranks run : List ℕ} {c : ℕ} → ranks ≡ eight (rank places 8) → run ≡ served places c → c < ready_count places
       → eight (λ i. pick (eqb (get_or ranks i 0) c && eqb (get_or run i 0) 0) 1 (get_or run i 0)) ≡ served places (c + 1)
   unfolding served
-  step-served {ranks} {run} {c} e r l =
+  step_served {ranks} {run} {c} e r l =
       eight_same (λ i. pick (eqb (get_or ranks i 0) c && eqb (get_or run i 0) 0) 1 (get_or run i 0)) (λ i. pick (taken places (c + 1) i) 1 0)
       (λ i h.
       ap₂ (λ x y. pick (eqb x c && eqb y 0) 1 y)
       (rank_read places 8 i e h)
       (served_at places c r i h)
       ∙ pick_fresh (eqb (rank places 8 i) c) (taken places c i)
-      ∙ step-taken places c i h l)
+      ∙ step_taken places c i h l)
 
   served_count : (c : ℕ) → tasks_in (served places c) ≡ count 8 (taken places c)
   unfolding served
@@ -113,7 +113,7 @@ module _ (places : List ℕ) (m : ℕ) where
       {ranks run next : List ℕ} {c : ℕ} → ranks ≡ eight (rank places 8) → Walked places m run c → c < m → c < ready_count places
       → next ≡ eight (λ i. pick (eqb (get_or ranks i 0) c && eqb (get_or run i 0) 0) 1 (get_or run i 0)) → Walked places m next (c + 1)
   walk_step {ranks} {run} {next} {c} e w l r n =
-      let is : next ≡ served places (c + 1) = n ∙ step-served e w.first r in
+      let is : next ≡ served places (c + 1) = n ∙ step_served e w.first r in
       record {
         first = is;
         number =
@@ -129,10 +129,10 @@ module _ (places : List ℕ) (m : ℕ) where
       (λ i h. ap (λ b. pick b 1 0) (sym (all_taken places c i h l)))
 
   -- LAW: a step that gives all that wait a processor
-  pub walk-rest :
+  pub walk_rest :
       {run : List ℕ} {c : ℕ} → run ≡ eight (λ i. pick (under places 65534 i) 1 0) → c ≡ ready_count places → c ≤ m → Walked places m run c
   unfolding ready_count
-  walk-rest {run} {c} r e l =
+  walk_rest {run} {c} r e l =
       record {
         first = r ∙ all_served c (omega arith);
         number = e ∙ sym (tasks_tested (under places 65534)) ∙ ap tasks_in (sym r);

@@ -43,11 +43,11 @@ abbrev pub NoTask : Table → State → ℕ → Type 0
 NoTask t s i = TaskHas t s i 0 0 0 0 0
 
 module _ (k : ℕ) (t : Table) (s : State) (i : ℕ) (h : i < 8) where
-  task-at :
+  task_at_lem :
       TaskHas (cut_table k t) (cut_state k s) i (pick (ltb i k) (get_or t.work i 0) 0) (pick (ltb i k) (get_or t.deadline i 0) 0)
       (pick (ltb i k) (get_or t.gap i 0) 0) (pick (ltb i k) (get_or s.c i 0) 0) (pick (ltb i k) (get_or s.p i 0) 0)
   unfolding cut_table cut_state
-  task-at =
+  task_at_lem =
       record {
         work = front_at k (λ j. get_or t.work j 0) i h;
         deadline = front_at k (λ j. get_or t.deadline j 0) i h;
@@ -58,11 +58,11 @@ module _ (k : ℕ) (t : Table) (s : State) (i : ℕ) (h : i < 8) where
 
   -- the first k tasks stay as they are
   pub task_in : i < k → SameTask (cut_table k t) t (cut_state k s) s i
-  task_in b = rw (lt-ltb i k b) at task-at
+  task_in b = rw (lt-ltb i k b) at task_at_lem
 
   -- no other is left
   pub task_out : k ≤ i → NoTask (cut_table k t) (cut_state k s) i
-  task_out b = rw (le-ltb i k b) at task-at
+  task_out b = rw (le-ltb i k b) at task_at_lem
 
   -- by cases
   pub by_task : {X : Type 0} → (i < k → SameTask (cut_table k t) t (cut_state k s) s i → X) → (k ≤ i → NoTask (cut_table k t) (cut_state k s) i → X) → X

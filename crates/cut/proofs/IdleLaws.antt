@@ -106,17 +106,17 @@ module _ (k : ℕ) (t : Table) where
       still_idle i h b = work_off t s mask i h (low.above i h b) ∙ idle i h b
 
   -- LAW: .. leaves in the cut what it leaves in the whole, and misses where it misses there
-  pub idle-after :
+  pub idle_after :
       (s : State) → ((i : ℕ) → i < 8 → k ≤ i → get_or s.c i 0 ≡ 0) → (mask : ℕ) → LowBits k mask mask → after (cut_table k t) s mask ≡ after t s mask
   unfolding after
-  idle-after s idle mask low =
+  idle_after s idle mask low =
       ap (λ r. ran r (chosen (cut_table k t) r)) (idle_released s idle mask low)
       ∙ ap (ran (released t s mask)) (idle_chosen (released t s mask) (still_idle s idle mask low))
 
-  pub idle-misses :
+  pub idle_misses :
       (s : State) → ((i : ℕ) → i < 8 → k ≤ i → get_or s.c i 0 ≡ 0) → (mask : ℕ) → LowBits k mask mask
       → missed (cut_table k t) (after t s mask) ≡ missed t (after t s mask)
-  idle-misses s idle mask low =
+  idle_misses s idle mask low =
       idle_missed (after t s mask) (λ i h b. omega (arith, work_falls t s mask i h, still_idle s idle mask low i h b))
 
   -- ---- a proper state of the cut is such a state, and proper in the whole

@@ -56,10 +56,10 @@ module _ (t : Table) (k : ℕ) where
         let e = task_in k t start i (omega (arith, whole.tasks.1, x.most)) h in
         rw (e.work, e.deadline, e.gap) (whole.each i (omega (arith, x.most)))
 
-    cut-rest :
+    cut_rest :
         (i : ℕ) → k ≤ i → i < 8
         → (get_or (cut_table k t).work i 0 ≡ 0) × (get_or (cut_table k t).deadline i 0 ≡ 0) × (get_or (cut_table k t).gap i 0 ≡ 0)
-    cut-rest i h l = let e = task_out k t start i l h in (e.work, e.deadline, e.gap)
+    cut_rest i h l = let e = task_out k t start i l h in (e.work, e.deadline, e.gap)
 
     -- THEOREM: the cut of a valid table to 1 to n tasks is valid
     pub cut_valid : table_fault (cut_table k t) ≡ 0
@@ -70,7 +70,7 @@ module _ (t : Table) (k : ℕ) where
           processors = rw (cut_m k t) whole.processors;
           tasks = rw (cut_n k t) (x.some, omega (arith, whole.tasks.1, x.most));
           each = λ i h. cut_fits i (rw (cut_n k t) at h);
-          rest = λ i h l. cut-rest i (rw (cut_n k t) at h) l;
+          rest = λ i h l. cut_rest i (rw (cut_n k t) at h) l;
         })
 
     cut_eight : Eight (cut_table k t)

@@ -201,8 +201,8 @@ module _ (k : ℕ) (t : Table) (fixed : t.policy ≡ 1) (s : State) where
   cut_ran = λ x. record { c = ran_work x; p = ran_gap x }
 
 -- LAW: a tick of the cut table with the low bits of a mask leaves the cut of what the tick of the whole leaves
-pub cut-after :
+pub cut_after :
     (k : ℕ) (t : Table) → t.policy ≡ 1 → (s : State) {low mask : ℕ} → LowBits k low mask → after (cut_table k t) (cut_state k s) low ≡ cut_state k (after t s mask)
 unfolding after
-cut-after k t fixed s {low} {mask} bits =
+cut_after k t fixed s {low} {mask} bits =
     ap (λ r. ran r (chosen (cut_table k t) r)) (cut_released k t s bits) ∙ cut_ran k t fixed (released t s mask)

@@ -26,9 +26,9 @@ use Rattle.slots.specs.Layout.{Layout}
 use Rattle.search.specs.Claim.{slots_in, spaces_refusal, sheet_refusal, Figures, verdict_figures, Search, TableSearch, SheetSearch}
 use Rattle.search.proofs.ClaimLaws.{sheet_read}
 use Rattle.search.proofs.ComputedLaws.{branching}
-use Rattle.search.proofs.SafeLaws.{safe-search, table_passed, table_spaces, sheet-passed}
+use Rattle.search.proofs.SafeLaws.{safe_search, table_passed, table_spaces, sheet_passed}
 use Rattle.cut.specs.Cut.{cut_table, cut_refusal}
-use Rattle.cut.proofs.IdleLaws.{idle-after, idle-misses, proper_idle, whole_proper, low_alone, whole_legal}
+use Rattle.cut.proofs.IdleLaws.{idle_after, idle_misses, proper_idle, whole_proper, low_alone, whole_legal}
 use Rattle.cut.proofs.TableLaws.{Cut, not_cut_refused, cut_valid, cut_read}
 
 module _ (t : Table) (k : ℕ) (x : Cut t k) where
@@ -40,10 +40,10 @@ module _ (t : Table) (k : ℕ) (x : Cut t k) where
     part_sub = legal_submask (cut_table k t) s m legal
 
     after_is : after (cut_table k t) s m ≡ after t s m
-    after_is = idle-after k t s (proper_idle k t s proper) m (low_alone k t s m legal)
+    after_is = idle_after k t s (proper_idle k t s proper) m (low_alone k t s m legal)
 
     missed_is : missed (cut_table k t) (after (cut_table k t) s m) ≡ missed t (after t s m)
-    missed_is = ap (missed (cut_table k t)) after_is ∙ idle-misses k t s (proper_idle k t s proper) m (low_alone k t s m legal)
+    missed_is = ap (missed (cut_table k t)) after_is ∙ idle_misses k t s (proper_idle k t s proper) m (low_alone k t s m legal)
 
     -- a mask that is legal in the cut does in the whole what it does there: the tasks after the kth have no job and get none
     legal_same : step t s m ≡ step (cut_table k t) s m
@@ -60,24 +60,24 @@ module _ (t : Table) (k : ℕ) (x : Cut t k) where
         ∙ sym (step_next (cut_table k t) (cut_valid t k x) s proper m small part_sub (missed_is ∙ h)))
 
   -- LAW: the system of a cut table is a part of the whole's, under every policy: it refuses what releases a task after the kth, and does the same otherwise
-  pub cut-part :
+  pub cut_part :
       (s : State) → Reached (system (cut_table k t)) s → (m : ℕ) → (step (cut_table k t) s m ≡ Refused) ⊎ (step t s m ≡ step (cut_table k t) s m)
-  cut-part s r m =
+  cut_part s r m =
       let proper = reached_proper (cut_table k t) (cut_valid t k x) s r in
       ⊎_elim (λ l. inr (legal_same s proper m l.0 (submask_legal (cut_table k t) s m l.1))) (λ e. inl e)
       (legal_or_refused (cut_table k t) (cut_valid t k x) s proper m)
 
   -- LAW: where no list of a table misses and its states fit K slots, the same is true of its cut
   pub cut_safe : (K : ℕ) → SafeIf (system t) K → SafeIf (system (cut_table k t)) K
-  cut_safe K safe = part_safe start (step t) (step (cut_table k t)) cut-part K safe (counts_exist (system (cut_table k t)) (branching (cut_table k t)))
+  cut_safe K safe = part_safe start (step t) (step (cut_table k t)) cut_part K safe (counts_exist (system (cut_table k t)) (branching (cut_table k t)))
 
   -- what a search of the cut answers where the whole is Safe
-  answer-safe :
+  answer_safe :
       (K : ℕ) {N : ℕ} {trace trace₂ : List ℕ} → Verdict (system t) K (Safe N) trace → (a : Answer) → Verdict (system (cut_table k t)) K a trace₂
       → ((verdict_figures a).kind ≡ 1) × ((verdict_figures a).N ≤ N)
-  answer-safe K v (Unsafe L n) w = absurd (w.safe.1 (cut_safe K (v.safe.0 tt)))
-  answer-safe K v (Safe n) w = (refl, part_most start (step t) (step (cut_table k t)) cut-part v.report.all w.report.all)
-  answer-safe K v (NoRoom n) w = absurd (w.safe.1 (cut_safe K (v.safe.0 tt)))
+  answer_safe K v (Unsafe L n) w = absurd (w.safe.1 (cut_safe K (v.safe.0 tt)))
+  answer_safe K v (Safe n) w = (refl, part_most start (step t) (step (cut_table k t)) cut_part v.report.all w.report.all)
+  answer_safe K v (NoRoom n) w = absurd (w.safe.1 (cut_safe K (v.safe.0 tt)))
 
   -- two searches with as many slots, in any layouts and spaces
   search_safe :
@@ -85,7 +85,7 @@ module _ (t : Table) (k : ℕ) (x : Cut t k) where
       → Search l₂ K q₂ (cut_table k t) v v' trace₂ trace₂' g → q₂ ≡ 0 → (g.kind ≡ 1) × (g.N ≤ f.N)
   search_safe {l} {l₂} {K} whole safe part passed =
       let y = part.found passed in
-      rw y.is (answer-safe K (safe-search whole safe).1.verdict y.answer y.searched.verdict)
+      rw y.is (answer_safe K (safe_search whole safe).1.verdict y.answer y.searched.verdict)
 
 -- whether the spaces will do is told by K and the length of the trace space
 spaces_same : (K : ℕ) (trace trace₂ : List ℕ) → length trace₂ ≡ length trace → spaces_refusal K trace₂ ≡ spaces_refusal K trace
@@ -98,25 +98,25 @@ module _ (work work' trace trace' w w' trace₂ trace₂' : List ℕ) (f g : Fig
   where
     -- THEOREM: for every table, whatever its policy, and every k from 1 to n: where the search of the table answers Safe with N states, that of its cut answers
     -- Safe with at most N
-    pub table-cut-safe :
+    pub table_cut_safe :
         (t : Table) (k : ℕ) → cut_refusal t k ≡ 0 → TableSearch t work work' trace trace' f
         → TableSearch (cut_table k t) w w' trace₂ trace₂' g → (g.kind ≡ 1) × (g.N ≤ f.N)
-    table-cut-safe t k none whole part =
+    table_cut_safe t k none whole part =
         let x = not_cut_refused t k none in
-        let spaces = (table_passed t (slots_in work) trace (safe-search whole safe).0).1 in
+        let spaces = (table_passed t (slots_in work) trace (safe_search whole safe).0).1 in
         search_safe t k x whole safe (rw same at part)
         (table_spaces (cut_table k t) (slots_in work) trace₂ (cut_valid t k x) ∙ spaces_same (slots_in work) trace trace₂ long ∙ spaces)
 
     -- THEOREM: and so for every sheet and the sheet of the cut
-    pub sheet-cut-safe :
+    pub sheet_cut_safe :
         (sheet : List ℕ) (k : ℕ) → cut_refusal (sheet_of sheet).table k ≡ 0 → SheetSearch sheet work work' trace trace' f
         → SheetSearch (sheet_bytes (cut_table k (sheet_of sheet).table)) w w' trace₂ trace₂' g → (g.kind ≡ 1) × (g.N ≤ f.N)
-    sheet-cut-safe sheet k none whole part =
+    sheet_cut_safe sheet k none whole part =
         let t = (sheet_of sheet).table in
         let x = not_cut_refused t k none in
         let again = cut_read t k x in
         let cut = sheet_bytes (cut_table k t) in
-        let spaces = (sheet-passed sheet (slots_in work) trace (safe-search whole safe).0).1 in
+        let spaces = (sheet_passed sheet (slots_in work) trace (safe_search whole safe).0).1 in
         let read : sheet_refusal cut (slots_in work) trace₂ ≡ spaces_refusal (slots_in work) trace₂ = sheet_read (slots_in work) trace₂ cut (ap (λ r. r.answer) again) in
         search_safe t k x whole safe (rw (same, ap (λ r. r.table) again) at part)
         (read ∙ spaces_same (slots_in work) trace trace₂ long ∙ spaces)

@@ -17,7 +17,7 @@ use Rattle.tasks.specs.declared.table.Table.{Table}
 use Rattle.tasks.specs.declared.sheet.Reading.TheVariants as Reading
 use Rattle.tasks.specs.declared.tick.TickAnswer.TheVariants as Tick
 use Rattle.lists.proofs.Bools.{by_bool}
-use Rattle.tasks.proofs.Answered.{ticked-legal}
+use Rattle.tasks.proofs.Answered.{ticked_legal}
 use Rattle.tasks.proofs.Listed.{read_accepted}
 use Rattle.tasks.proofs.RoundTrip.{read_valid}
 use Rattle.levels.specs.Verdict.{Reached, Misses}
@@ -32,7 +32,7 @@ use Rattle.slots.specs.Layout.{Layout, columns, state_at}
 use Rattle.slots.proofs.Bytes.{state_same}
 use Rattle.search.specs.Claim.{slots_in, Figures, Searched, TableSearch, SheetSearch}
 use Rattle.search.proofs.ClaimLaws.{slots_fit}
-use Rattle.search.proofs.SafeLaws.{safe-search, table_passed, sheet-passed}
+use Rattle.search.proofs.SafeLaws.{safe_search, table_passed, sheet_passed}
 use Rattle.closed.specs.Closed.{states_in, Contains, Leads, Closed, file_refusal, table_file_refusal, sheet_file_refusal, Judged, TableJudged, SheetJudged}
 use Rattle.evidence.specs.Evidence.{file_of, HasStates}
 
@@ -59,7 +59,7 @@ module _ {l : Layout} {K : ℕ} {t : Table} (valid : table_fault t ≡ 0) {work 
         (λ e. absurd (reached_calm (system t) none r m (after t s m) (step_missed t valid s proper m small sub e)))
         (λ e.
         let u = after t s m in
-        let is : ticked t s m ≡ answered Tick.Next u = rw e at (ticked-legal t s m valid proper legal) in
+        let is : ticked t s m ≡ answered Tick.Next u = rw e at (ticked_legal t s m valid proper legal) in
         record {
           next = ap (λ a. a.answer) is;
           contained = rw is (contained u (reached_next (system t) r m (step_next t valid s proper m small sub e)));
@@ -126,11 +126,11 @@ unfolding table_file_refusal
 table_file t file valid whole = rw (valid, whole)
 
 -- LAW: for every table. Where `search_table` answers Safe with N states, the checker accepts the first 16 N bytes of its work space as a file for the table.
-pub table-accepted :
+pub table_accepted :
     (t : Table) (work work' trace trace' : List ℕ) (f : Figures) → TableSearch t work work' trace trace' f → f.kind ≡ 1
     → (a : List ℕ) → TableJudged t (file_of work' f.N) a → a ≡ 1 ∷ []
-table-accepted t work work' trace trace' f x k a judged =
-    let y = safe-search x k in
+table_accepted t work work' trace trace' f x k a judged =
+    let y = safe_search x k in
     let valid = (table_passed t (slots_in work) trace y.0).0 in
     accepted valid y.1 (slots_fit work) (table_file t (file_of work' f.N) valid) judged
 
@@ -139,12 +139,12 @@ unfolding sheet_file_refusal
 sheet_file sheet file e whole = ap (λ a. after_reading a (file_refusal file)) e ∙ whole
 
 -- LAW: the same for every sheet, a list of bytes: `search_sheet`, and the checker with the same sheet
-pub sheet-accepted :
+pub sheet_accepted :
     (sheet : List ℕ) → ((i : ℕ) → get_or sheet i 0 < 256)
     → (work work' trace trace' : List ℕ) (f : Figures) → SheetSearch sheet work work' trace trace' f → f.kind ≡ 1
     → (a : List ℕ) → SheetJudged sheet (file_of work' f.N) a → a ≡ 1 ∷ []
-sheet-accepted sheet bytes work work' trace trace' f x k a judged =
-    let y = safe-search x k in
-    let read = (sheet-passed sheet (slots_in work) trace y.0).0 in
+sheet_accepted sheet bytes work work' trace trace' f x k a judged =
+    let y = safe_search x k in
+    let read = (sheet_passed sheet (slots_in work) trace y.0).0 in
     let valid = read_valid sheet bytes (sheet_of sheet).table (read_accepted (sheet_of sheet) read) in
     accepted valid y.1 (slots_fit work) (sheet_file sheet (file_of work' f.N) read) judged

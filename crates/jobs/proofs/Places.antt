@@ -104,11 +104,11 @@ module _ (policy d g p c : ℕ) (t : InTime d g p c) where
   place_range = (omega (arith, place_in_lem, age_most), omega (arith, place_in_lem, key_most))
 
 -- LAW: of two jobs in time the smaller key has the smaller place, and of equal keys the greater age
-pub place-less :
+pub place_less :
     (policy d g p c e h q b : ℕ) → InTime d g p c → InTime e h q b
     → ltb (job_place policy d g p c) (job_place policy e h q b)
     ≡ lex (job_key policy d g p c) (job_key policy e h q b) (lt_z (job_age policy h q) (job_age policy g p))
-place-less policy d g p c e h q b t u =
+place_less policy d g p c e h q b t u =
     rw
     (place_in_lem policy d g p c t, place_in_lem policy e h q b u, key_in_lem policy d g p c t, key_in_lem policy e h q b u, age_in_lem policy d g p c t, age_in_lem policy e h q b u)
     (pack_less 256 (key_in policy d g p c) (key_in policy e h q b) (255 - age_in policy g p) (255 - age_in policy h q) (omega arith) (omega arith)

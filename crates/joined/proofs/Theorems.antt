@@ -21,7 +21,7 @@ use Rattle.tasks.specs.declared.play.ReplayAnswer.{ReplayAnswer}
 use Rattle.tasks.specs.declared.play.ReplayAnswer.TheVariants.{Played, Refused}
 use Rattle.tasks.specs.declared.play.Replayed.{Replayed}
 use Rattle.tasks.proofs.Played.{from_played, replayed_from}
-use Rattle.tasks.proofs.Joined.{kept, played-joined, played_proper}
+use Rattle.tasks.proofs.Joined.{kept, played_joined, played_proper}
 use Rattle.joined.specs.Raised.{raised_tick, raised_outcome, raised_answer, raised}
 
 -- ---- numbers raised
@@ -30,13 +30,13 @@ tick_raised : (k n : ℕ) → raised_tick k (n + 1) ≡ k + n + 1
 unfolding raised_tick
 tick_raised k n = rw (ne_eqb (n + 1) 0 (λ e. omega arith)) (omega arith)
 
-next-raised :
+next_raised :
     (k n : ℕ) (s s' : State) (more rest : Replayed) (a : TickAnswer) → (a ≡ Tick.Next → more ≡ raised k rest)
     → play_next (k + n + 1) s s' more a ≡ raised k (play_next (n + 1) s s' rest a)
 unfolding raised_answer raised_outcome
-next-raised k n s s' more rest Tick.Next f = f refl
-next-raised k n s s' more rest Tick.Missed f = ap (λ i. record { answer = Played (Missed i); state = s' }) (sym (tick_raised k n))
-next-raised k n s s' more rest (Tick.Refused r) f = ap (λ i. record { answer = Refused r i; state = s }) (sym (tick_raised k n))
+next_raised k n s s' more rest Tick.Next f = f refl
+next_raised k n s s' more rest Tick.Missed f = ap (λ i. record { answer = Played (Missed i); state = s' }) (sym (tick_raised k n))
+next_raised k n s s' more rest (Tick.Refused r) f = ap (λ i. record { answer = Refused r i; state = s }) (sym (tick_raised k n))
 
 module _ (t : Table) where
   played_raised : (s : State) (k n : ℕ) (l : List ℕ) → played t s (k + n) l ≡ raised k (played t s n l)
@@ -45,7 +45,7 @@ module _ (t : Table) where
   played_raised s k n (mask ∷ masks) =
       let s₁ = (ticked t s mask).state in
       let e : k + n + 1 ≡ k + (n + 1) = omega arith in
-      next-raised k n s s₁ (played t s₁ (k + n + 1) masks) (played t s₁ (n + 1) masks) (ticked t s mask).answer
+      next_raised k n s s₁ (played t s₁ (k + n + 1) masks) (played t s₁ (n + 1) masks) (ticked t s mask).answer
       (λ next. ap (λ i. played t s₁ i masks) e ∙ played_raised s₁ k (n + 1) masks)
 
   -- LAW: with k ticks before it a list is played as with none, with its tick numbers raised by k
@@ -56,20 +56,20 @@ module _ (t : Table) where
       (λ e. rw e (by_bool (improper t s) (λ b. rw b) (λ b. rw b (let z : k ≡ k + 0 = omega arith in ap (λ i. played t s i l) z ∙ played_raised s k 0 l))))
 
   -- an answer that is raised, beside the state of the play with no ticks before
-  pub after-answer :
+  pub after_answer :
       (s : State) (k : ℕ) (l : List ℕ) {r : Replayed} {a : ReplayAnswer} → r ≡ played_from t s 0 l → a ≡ raised_answer k r.answer
       → record { answer = a; state = r.state } ≡ played_from t s k l
-  after-answer s k l {r} is e = ap (λ x. record { answer = x; state = r.state }) e ∙ ap (raised k) is ∙ sym (from_raised s k l)
+  after_answer s k l {r} is e = ap (λ x. record { answer = x; state = r.state }) e ∙ ap (raised k) is ∙ sym (from_raised s k l)
 
 -- ---- two lists
 
 -- a list that is not Kept: no mask after it is read
-next-ended :
+next_ended :
     (k : ℕ) (s s' : State) (more rest : Replayed) (a : TickAnswer) → (a ≡ Tick.Next → (rest.answer ≡ Played Kept → ⊥) → more ≡ rest)
     → ((play_next k s s' rest a).answer ≡ Played Kept → ⊥) → play_next k s s' more a ≡ play_next k s s' rest a
-next-ended k s s' more rest Tick.Next f h = f refl h
-next-ended k s s' more rest Tick.Missed f h = refl
-next-ended k s s' more rest (Tick.Refused r) f h = refl
+next_ended k s s' more rest Tick.Next f h = f refl h
+next_ended k s s' more rest Tick.Missed f h = refl
+next_ended k s s' more rest (Tick.Refused r) f h = refl
 
 module _ (t : Table) where
   played_ended : (s : State) (k : ℕ) (l l' : List ℕ) → ((played t s k l).answer ≡ Played Kept → ⊥) → played t s k (l ++ l') ≡ played t s k l
@@ -77,7 +77,7 @@ module _ (t : Table) where
   played_ended s k [] l' h = absurd (h refl)
   played_ended s k (mask ∷ masks) l' h =
       let s₁ = (ticked t s mask).state in
-      next-ended (k + 1) s s₁ (played t s₁ (k + 1) (masks ++ l')) (played t s₁ (k + 1) masks) (ticked t s mask).answer
+      next_ended (k + 1) s s₁ (played t s₁ (k + 1) (masks ++ l')) (played t s₁ (k + 1) masks) (ticked t s mask).answer
       (λ next rest. played_ended s₁ (k + 1) masks l' rest) h
 
   -- a play that is Kept was not refused before its first tick
@@ -99,7 +99,7 @@ module _ (t : Table) where
         let ok = kept_from s k l s' e in
         let first : played t s k l ≡ kept s' = from_played t s k l ok.0 ok.1 ∙ e in
         sym (from_played t s k (l ++ l') ok.0 ok.1)
-        ∙ played-joined t s k l l' s' first
+        ∙ played_joined t s k l l' s' first
         ∙ from_played t s' (k + length l) l' ok.0 (played_proper t s k l s' ok.1 first)
 
     -- THEOREM: .. and where the first is Missed or refused, the joined list answers as the first

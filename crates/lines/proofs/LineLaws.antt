@@ -90,10 +90,10 @@ module _ (a : SearchAnswer) (trace : List ℕ) where
         let q : Writing.Written n ≡ Writing.Written (length (lines_of a trace)) = rw h at e in
         (cc, ltb-false (length out) (length (lines_of a trace)) h))
 
-    pub written-text :
+    pub written_text :
         {n : ℕ} {out' : List ℕ} → Writing.Written n ≡ lines_writing a trace out → out' ≡ lines_out a trace out
         → (n ≡ length (lines_of a trace)) × (out' ≡ lines_of a trace ++ drop n out)
-    written-text e q =
+    written_text e q =
         let w = written_long e in
         (w.0, q ∙ sym (lines_fit w.1).1 ∙ ap (λ k. lines_of a trace ++ drop k out) (sym w.0))
 

@@ -22,18 +22,18 @@ count_mono p q (suc n) f =
     omega (arith, count_mono p q n (λ k h. f k (omega arith)), pick_le (p n) (q n) (f n (omega arith)))
 
 -- q holds wherever p does, but perhaps at x
-pub count-but-one :
+pub count_but_one :
     (p q : ℕ → Bool) (x n : ℕ) → ((k : ℕ) → k < n → (k ≡ x → ⊥) → p k ≡ true → q k ≡ true) → count n p ≤ count n q + 1
 unfolding count
-count-but-one p q x zero f = omega arith
-count-but-one p q x (suc n) f =
+count_but_one p q x zero f = omega arith
+count_but_one p q x (suc n) f =
     elim (ℕ_discrete n x) [
       | yes e ↦
           omega
           (arith, count_mono p q n (λ k h. f k (omega arith) (λ g. omega arith)), pick_le (p n) true (λ g. refl))
       | no d ↦
           omega
-          (arith, count-but-one p q x n (λ k h. f k (omega arith)), pick_le (p n) (q n) (f n (omega arith) d))
+          (arith, count_but_one p q x n (λ k h. f k (omega arith)), pick_le (p n) (q n) (f n (omega arith) d))
     ]
 
 -- p and q agree
@@ -102,16 +102,16 @@ count_less p q x (suc n) l f a b =
     ]
 
 -- p and q agree but at x, where q alone holds
-pub count-one-more :
+pub count_one_more :
     (p q : ℕ → Bool) (x n : ℕ) → x < n → ((k : ℕ) → k < n → (k ≡ x → ⊥) → p k ≡ q k) → p x ≡ false → q x ≡ true → count n q ≡ count n p + 1
 unfolding count
-count-one-more p q x zero l f a b = absurd (omega arith)
-count-one-more p q x (suc n) l f a b =
+count_one_more p q x zero l f a b = absurd (omega arith)
+count_one_more p q x (suc n) l f a b =
     elim (ℕ_discrete x n) [
       | yes e ↦ rw (sym e, a, b) (omega (arith, count_same p q x (λ k h. f k (omega arith) (λ g. omega arith))))
       | no d ↦
           rw (f n (omega arith) (λ g. d (sym g)))
-          (omega (arith, count-one-more p q x n (omega arith) (λ k h. f k (omega arith)) a b))
+          (omega (arith, count_one_more p q x n (omega arith) (λ k h. f k (omega arith)) a b))
     ]
 
 -- ---- the least of those that pass a test

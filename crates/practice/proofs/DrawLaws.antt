@@ -101,12 +101,12 @@ module _ {policy m n seed : ℕ} where
     set_more f e q h = ap₂ (λ l x. set l i x) e q ∙ front_more f i h
 
     -- with the numbers of task i set
-    pub drawing-step :
+    pub drawing_step :
         i < 8
         → Drawing policy m n seed
         (record { policy = t.policy; m = t.m; n = t.n; work = set t.work i C; deadline = set t.deadline i D; gap = set t.gap i P })
         third (i + 1)
-    drawing-step h =
+    drawing_step h =
         let e : 3 * i + 3 ≡ 3 * (i + 1) = omega arith in
         record {
           head = w.head;

@@ -23,10 +23,10 @@ module _ (t : Table) (k : ℕ) (out : List ℕ) where
       (rw (a.1, l), rw (a.1, l))
 
   -- the writer is given the cut table
-  pub first-written :
+  pub first_written :
       (cut_of t k).answer ≡ Reading.Accepted → (sheet_number (cut_of t k).table out ≡ first_number t k out) × (write_out (cut_of t k).table out ≡ first_space t k out)
   unfolding first_number first_space
-  first-written e = let a = answer_accepted t k e in (rw (a.1, a.0), rw (a.1, a.0))
+  first_written e = let a = answer_accepted t k e in (rw (a.1, a.0), rw (a.1, a.0))
 
   module _ (none : cut_refusal t k ≡ 0) (room : length (sheet_bytes (cut_table k t)) ≤ length out) where
     -- the cut is valid, so the output's length is all that the writer asks of it
@@ -49,21 +49,21 @@ module _ (sheet : List ℕ) (k : ℕ) (out : List ℕ) where
   cut_refused e = (rw e, rw e)
 
   module _ (e : (sheet_of sheet).answer ≡ Reading.Accepted) where
-    pub cut-first :
+    pub cut_first :
         (first_number (sheet_of sheet).table k out ≡ cut_number sheet k out) × (first_space (sheet_of sheet).table k out ≡ cut_space sheet k out)
     unfolding cut_number cut_space
-    cut-first = (rw e, rw e)
+    cut_first = (rw e, rw e)
 
     module _ (none : cut_refusal (sheet_of sheet).table k ≡ 0) (room : length (sheet_bytes (cut_table k (sheet_of sheet).table)) ≤ length out) where
       -- THEOREM: of a sheet that is accepted and a k from 1 to n, where the output has room: the number is kind 1 with the sheet's length
       pub cut_done : cut_number sheet k out ≡ 2 ^ 48 + length (sheet_bytes (cut_table k (sheet_of sheet).table))
-      cut_done = sym cut-first.0 ∙ first_done (sheet_of sheet).table k out none room
+      cut_done = sym cut_first.0 ∙ first_done (sheet_of sheet).table k out none room
 
       -- THEOREM: and as many bytes of the output are read as the cut table
       pub cut_again :
           sheet_of (take (length (sheet_bytes (cut_table k (sheet_of sheet).table))) (cut_space sheet k out)) ≡ accepted_as (cut_table k (sheet_of sheet).table)
       cut_again =
           let t = (sheet_of sheet).table in
-          ap (λ b. sheet_of (take (length (sheet_bytes (cut_table k t))) b)) (sym cut-first.1)
+          ap (λ b. sheet_of (take (length (sheet_bytes (cut_table k t))) b)) (sym cut_first.1)
           ∙ ap sheet_of (first_front t k out none room)
           ∙ cut_read t k (not_cut_refused t k none)

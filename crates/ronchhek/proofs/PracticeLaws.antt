@@ -24,20 +24,20 @@ module _ (policy m n s : ℕ) (out : List ℕ) where
   refusal_is {r} h e = let l = lt-ltb 0 r h in rw (e, l)
 
   -- policy, m or n is refused
-  pub number-refused :
+  pub number_refused :
       {r : ℕ} → (practice_of policy m n s).answer ≡ Reading.Refused r → (r ≡ practice_number policy m n s out) × (out ≡ practice_space policy m n s out)
   unfolding practice_number practice_space
-  number-refused {r} e =
+  number_refused {r} e =
       let a = answer_refused policy m n s e in
       let q = refusal_is a.0 a.1 in
       let l = lt-ltb 0 r a.0 in
       (rw (q, l), rw (q, l))
 
   -- the writer is given the practice table
-  pub practice-written :
+  pub practice_written :
       (sheet_number (practice_table policy m n s) out ≡ practice_number policy m n s out) × (write_out (practice_table policy m n s) out ≡ practice_space policy m n s out)
   unfolding sheet_number practice_number practice_space write_out
-  practice-written = (rw same_refusal, rw same_refusal)
+  practice_written = (rw same_refusal, rw same_refusal)
 
   module _ (e : practice_refusal policy m n ≡ 0) (room : length (practice_sheet policy m n s) ≤ length out) where
     no_refusal : sheet_refusal policy m n s out ≡ 0
@@ -56,6 +56,6 @@ module _ (policy m n s : ℕ) (out : List ℕ) where
         (take_at (practice_sheet policy m n s) (drop (length (practice_sheet policy m n s)) out) (length (practice_sheet policy m n s)) refl)
 
     -- THEOREM: as many bytes of the output are read as the practice table
-    pub practice-again :
+    pub practice_again :
         sheet_of (take (length (practice_sheet policy m n s)) (practice_space policy m n s out)) ≡ accepted_as (practice_table policy m n s)
-    practice-again = ap sheet_of front_is ∙ practice_read policy m n s e
+    practice_again = ap sheet_of front_is ∙ practice_read policy m n s e

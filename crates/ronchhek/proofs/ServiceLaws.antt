@@ -38,11 +38,11 @@ module _ (t : Table) (list space : List ℕ) where
   long_totals h = rw (le-leb (2 ^ 48) (length list) h)
 
   -- the totals that the code wrote, whatever the answer
-  pub table-written :
+  pub table_written :
       {x : Totals} {left : List ℕ} → table_fault t ≡ 0 → length list < 2 ^ 48 → x ≡ (account_of t list).totals → left ≡ totals_space x space
       → left ≡ table_totals t list space
   unfolding table_totals
-  table-written valid short e f =
+  table_written valid short e f =
       f ∙ rw (e, lt-leb (2 ^ 48) (length list) short) (answer_written (replayed t list).answer (account_of t list).totals space (replayed_eleven t valid list))
 
 -- ---- the balance, in the bytes that the call leaves
@@ -65,24 +65,24 @@ module _ (t : Table) (valid : table_fault t ≡ 0) (list : List ℕ) (short : le
       let most = mul-le-mul few short-work in
       omega (arith, most, (balance t list).each i h)
 
-  bytes-balanced :
+  bytes_balanced :
       (space : List ℕ) → 192 ≤ length space
       → total_at (totals_space (account_of t list).totals space) i 0 * get_or t.work i 0
       ≡ total_at (totals_space (account_of t list).totals space) i 1 + total_at (totals_space (account_of t list).totals space) i 2
   unfolding total_at
-  bytes-balanced space room =
+  bytes_balanced space room =
       let x = (account_of t list).totals in
       rw (releases_read x space room i h (omega (arith, few_releases)), ran_read x space room i h (omega (arith, few_ticks)), left_read x space room i h (omega (arith, little_left)))
       ((balance t list).each i h)
 
 -- THEOREM: after every call with an accepted sheet and room for the totals, whatever the list and the answer, the bytes of each task balance
-pub service-balanced :
+pub service_balanced :
     (sheet list space : List ℕ) → ((j : ℕ) → get_or sheet j 0 < 256) → (sheet_of sheet).answer ≡ Reading.Accepted → length list < 2 ^ 48
     → 192 ≤ length space → (i : ℕ) → i < 8
     → total_at (call_totals sheet list space) i 0 * get_or (sheet_of sheet).table.work i 0
     ≡ total_at (call_totals sheet list space) i 1 + total_at (call_totals sheet list space) i 2
 unfolding call_totals
-service-balanced sheet list space byte accepted short room i h =
+service_balanced sheet list space byte accepted short room i h =
     let t = (sheet_of sheet).table in
     let valid = read_valid sheet byte t (read_accepted (sheet_of sheet) accepted) in
-    rw (accepted, sym (table-written t list space valid short refl refl)) (bytes-balanced t valid list short i h space room)
+    rw (accepted, sym (table_written t list space valid short refl refl)) (bytes_balanced t valid list short i h space room)

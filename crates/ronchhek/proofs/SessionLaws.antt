@@ -9,8 +9,8 @@ use Rattle.session.proofs.CallLaws.{session_answer_is}
 use Rattle.session_bytes.specs.Space.{sheet_call}
 use Rattle.ronchhek.specs.Sessions.{session_number, call_number}
 
-pub number-told :
+pub number_told :
     (sheet session : List ℕ) (c : Call) (a : SessionAnswer) {n : ℕ} → session_answer a ≡ session_answer (sheet_call sheet session c)
     → n ≡ session_number a → n ≡ call_number sheet session c
 unfolding call_number
-number-told sheet session c a e h = h ∙ ap session_number (session_answer_is e)
+number_told sheet session c a e h = h ∙ ap session_number (session_answer_is e)

@@ -23,11 +23,11 @@ use Rattle.ronchhek.specs.Tables.{entries, table_bytes, table_from, read_number,
 -- ---- the 27 bytes written
 
 -- task i's three numbers, and then those of the tasks after it
-pub entries-turn :
+pub entries_turn :
     (t : Table) (i : ℕ) → i < 8
     → entries t (8 - i) i ≡ (get_or t.work i 0 ∷ get_or t.deadline i 0 ∷ get_or t.gap i 0 ∷ []) ++ entries t (8 - (i + 1)) (i + 1)
 unfolding entries
-entries-turn t i h = let e : 8 - i ≡ suc (8 - (i + 1)) = omega arith in rw e
+entries_turn t i h = let e : 8 - i ≡ suc (8 - (i + 1)) = omega arith in rw e
 
 pub entries_end : (t : Table) (i : ℕ) → 8 ≤ i → entries t (8 - i) i ≡ []
 unfolding entries
@@ -122,10 +122,10 @@ module _ (table out : List ℕ) where
   table_long h = let e = lt-ltb 27 (length table) h in let s = le-ltb (length table) 27 (omega arith) in (rw (s, e), rw (s, e))
 
   -- the bytes are those of a table
-  pub table-whole :
+  pub table_whole :
       27 ≤ length table → length table ≤ 27 → (sheet_number (table_from table) out ≡ write_number table out) × (write_out (table_from table) out ≡ write_space table out)
   unfolding sheet_number write_number write_space bytes_refusal
-  table-whole from upto =
+  table_whole from upto =
       let e = le-ltb (length table) 27 from in
       let s = le-ltb 27 (length table) upto in
       (rw (e, s), rw (e, s) (out_stays (table_from table) out))

@@ -43,12 +43,12 @@ take_bytes (suc n) (x ∷ xs) f zero = f 0
 take_bytes (suc n) (x ∷ xs) f (suc i) = take_bytes n xs (λ j. f (suc j)) i
 
 -- a verdict's masks, where the trace space has bytes, are missed by the replay of `tasks`
-verdict-replays :
+verdict_replays :
     (t : Table) → table_fault t ≡ 0 → (trace : List ℕ) → ((i : ℕ) → get_or trace i 0 < 256) → (k : ℕ) (a : Answer) → Verdict (system t) k a (take (masks_of a) trace)
     → Replays t trace a
-verdict-replays t valid trace bytes k (Unsafe L n) x = replay_missed t valid (take L trace) (take_bytes L trace bytes) x.report.missed
-verdict-replays t valid trace bytes k (Safe n) x = tt
-verdict-replays t valid trace bytes k (NoRoom n) x = tt
+verdict_replays t valid trace bytes k (Unsafe L n) x = replay_missed t valid (take L trace) (take_bytes L trace bytes) x.report.missed
+verdict_replays t valid trace bytes k (Safe n) x = tt
+verdict_replays t valid trace bytes k (NoRoom n) x = tt
 
 -- ---- the verdict in the paper's columns
 
@@ -81,10 +81,10 @@ pub settle_ready : {t : Table} {K : ℕ} {ends w w₁ : List ℕ} {end : End} �
 settle_ready {t} {K} {ends} {w} {w₁} {end} x few = ready_by t K ends w w₁ end x.is few
 
 -- what the report asks
-report-by :
+report_by :
     (t : Table) (K : ℕ) (ends w w₁ w₂ trace : List ℕ) (end : End) → RanIs t K ends w w₁ end → Settled K ends w₁ w₂ (written_by K end) → K ≤ length trace
     → 21 * K ≤ length w₂ → ReportReady K w₂ trace end
-report-by t K ends w w₁ w₂ trace (End.Missed i m d n) x z long fits =
+report_by t K ends w w₁ w₂ trace (End.Missed i m d n) x z long fits =
     let b = x.ran.most in
     let e = x.deep in
     record {
@@ -95,25 +95,25 @@ report-by t K ends w w₁ w₂ trace (End.Missed i m d n) x z long fits =
       low = λ j h. rw (z.parents j h) (x.low j h);
       long = omega arith;
     }
-report-by t K ends w w₁ w₂ trace (End.Closed n) x z long fits = tt
-report-by t K ends w w₁ w₂ trace End.Full x z long fits = tt
+report_by t K ends w w₁ w₂ trace (End.Closed n) x z long fits = tt
+report_by t K ends w w₁ w₂ trace End.Full x z long fits = tt
 
-pub report-ready :
+pub report_ready :
     {t : Table} {K : ℕ} {ends w w₁ w₂ : List ℕ} {end : End} → RanBy t K ends w w₁ end → Settled K ends w₁ w₂ (written_by K end) → (trace : List ℕ) → K ≤ length trace
     → 21 * K ≤ length w₂ → ReportReady K w₂ trace end
-report-ready {t} {K} {ends} {w} {w₁} {w₂} {end} x z trace long fits = report-by t K ends w w₁ w₂ trace end x.is z long fits
+report_ready {t} {K} {ends} {w} {w₁} {w₂} {end} x z trace long fits = report_by t K ends w w₁ w₂ trace end x.is z long fits
 
 module _ (t : Table) (K : ℕ) (ends w w₁ w₂ trace trace' : List ℕ) (valid : table_fault t ≡ 0) (len : length w₁ ≡ length w) where
   -- in the paper's columns, and with its masks at the front of the trace space, it is the claim
-  ran-searched :
+  ran_searched :
       {a : Answer} {masks : List ℕ} → Ran t K ends w w₁ a masks → Settled K ends w₁ w₂ (count_of a) → take (masks_of a) trace' ≡ masks
       → drop (masks_of a) trace' ≡ drop (masks_of a) trace → length trace' ≡ length trace → ((i : ℕ) → get_or trace' i 0 < 256)
       → Searched (columns K) K t w w₂ trace trace' a
-  ran-searched {a} {masks} r z front rest long bytes =
+  ran_searched {a} {masks} r z front rest long bytes =
       let v : Verdict (system t) K a (take (masks_of a) trace') = rw front r.verdict in
       record {
         verdict = v;
-        replays = verdict-replays t valid trace' bytes K a v;
+        replays = verdict_replays t valid trace' bytes K a v;
         rule = rule_same (system t) r.rule r.some z.states z.parents z.masks;
         most = r.most;
         stored = stored_same (system t) r.stored z.states;
@@ -126,14 +126,14 @@ module _ (t : Table) (K : ℕ) (ends w w₁ w₂ trace trace' : List ℕ) (valid
       }
 
   -- .. and what the report found
-  found-by :
+  found_by :
       (end : End) (r : SearchAnswer) → RanIs t K ends w w₁ end → Settled K ends w₁ w₂ (written_by K end) → ReportIs K w₂ trace trace' end r
       → length trace' ≡ length trace → ((i : ℕ) → get_or trace' i 0 < 256) → Found (columns K) K t w w₂ trace trace' (figures r)
-  found-by (End.Missed i m d n) r x z y long bytes =
+  found_by (End.Missed i m d n) r x z y long bytes =
       record {
         answer = Unsafe (suc d) n;
         is = ap figures y.0;
-        searched = ran-searched x.ran z front rest long bytes;
+        searched = ran_searched x.ran z front rest long bytes;
       }
     where
       same : trail (parent_at (columns K) w₂) (mask_at (columns K) w₂) d i ≡ trail (parent_in K ends w₁) (mask_at (columns K) w₁) d i
@@ -144,15 +144,15 @@ module _ (t : Table) (K : ℕ) (ends w w₁ w₂ trace trace' : List ℕ) (valid
 
       rest : drop (suc d) trace' ≡ drop (suc d) trace
       rest = rw (y.1, ← add-one d) (traced_rest K w₂ trace i d m)
-  found-by (End.Closed n) r x z y long bytes = record { answer = Safe n; is = ap figures y.0; searched = ran-searched x z refl (ap (drop 0) y.1) long bytes }
-  found-by End.Full r x z y long bytes = record { answer = NoRoom K; is = ap figures y.0; searched = ran-searched x z refl (ap (drop 0) y.1) long bytes }
+  found_by (End.Closed n) r x z y long bytes = record { answer = Safe n; is = ap figures y.0; searched = ran_searched x z refl (ap (drop 0) y.1) long bytes }
+  found_by End.Full r x z y long bytes = record { answer = NoRoom K; is = ap figures y.0; searched = ran_searched x z refl (ap (drop 0) y.1) long bytes }
 
-pub ran-found :
+pub ran_found :
     {t : Table} {K : ℕ} {ends w w₁ w₂ trace trace' : List ℕ} {end : End} → table_fault t ≡ 0 → length w₁ ≡ length w → RanBy t K ends w w₁ end
     → Settled K ends w₁ w₂ (written_by K end) → (r : SearchAnswer) → ReportIs K w₂ trace trace' end r → length trace' ≡ length trace
     → ((i : ℕ) → get_or trace' i 0 < 256) → Found (columns K) K t w w₂ trace trace' (figures r)
-ran-found {t} {K} {ends} {w} {w₁} {w₂} {trace} {trace'} {end} valid len x z r y long bytes =
-    found-by t K ends w w₁ w₂ trace trace' valid len end r x.is z y long bytes
+ran_found {t} {K} {ends} {w} {w₁} {w₂} {trace} {trace'} {end} valid len x z r y long bytes =
+    found_by t K ends w w₁ w₂ trace trace' valid len end r x.is z y long bytes
 
 -- ---- K and the refusals
 
@@ -204,10 +204,10 @@ module _ (K : ℕ) (trace : List ℕ) where
 pub refused_search : {l : Layout} {K q r : ℕ} {t : Table} {w trace : List ℕ} → q ≡ r → 0 < r → Search l K q t w w trace trace (refusal_figures r)
 refused_search e h = record { refused = λ l. (rw e, refl, refl); found = λ z. absurd (omega arith) }
 
-pub found-search :
+pub found_search :
     {l : Layout} {K q : ℕ} {t : Table} {w w' trace trace' : List ℕ} {f : Figures} → q ≡ 0 → Found l K t w w' trace trace' f
     → Search l K q t w w' trace trace' f
-found-search e x = record { refused = λ l. absurd (omega arith); found = λ z. x }
+found_search e x = record { refused = λ l. absurd (omega arith); found = λ z. x }
 
 -- ---- heads and ends at first
 
@@ -246,5 +246,5 @@ finishing {t} {K} {ends} {w} {w₁} {trace} {end} x long len ran =
       most = ready.0;
       last = ready.1;
       fits = fits;
-      ready = λ w' z. report-ready ran z trace x.long (omega (arith, z.len));
+      ready = λ w' z. report_ready ran z trace x.long (omega (arith, z.len));
     }

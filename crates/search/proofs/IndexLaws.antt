@@ -25,10 +25,10 @@ use Rattle.slots.proofs.RunningLaws.{Put}
 use Rattle.search.specs.Indexed.{bucket_for, bucket_of, tag_of, newest, tags_in, Indexed, Pushed}
 
 -- no slot is written, and every head is 0
-pub indexed-start :
+pub indexed_start :
     {K : ℕ} (w heads : List ℕ) → K ≤ 1000000 → 21 * K ≤ length w → 0 < length heads → ((b : ℕ) → get_or heads b 0 ≡ 0) → Indexed K w heads 0
 unfolding newest
-indexed-start w heads few fits h zeros =
+indexed_start w heads few fits h zeros =
     record {
       some = h;
       few = few;
@@ -59,10 +59,10 @@ keyed {K} {w} {heads} {n} x =
     rw e at (index_by key_of (bucket_for (length heads)) (state_in w) x.index)
 
 -- no slot of the bucket has the tag of s: none holds s
-pub not-tagged :
+pub not_tagged :
     {K : ℕ} {w heads : List ℕ} {n : ℕ} → Indexed K w heads n → (s : State)
     → bit_and (tags_in heads (bucket_of (length heads) s)) (2 ^ tag_of s) ≡ 0 → Holds (state_in w) n s → ⊥
-not-tagged {K} {w} {heads} x s e h =
+not_tagged {K} {w} {heads} x s e h =
     clash (rw h.same at (x.tagged h.place h.below)) (tag_off (tags_in heads (bucket_of (length heads) s)) (tag_of s) e)
 
 -- ---- a pushed slot

@@ -19,21 +19,21 @@ drop_set l k v h =
 
 module _ (K : ℕ) (w : List ℕ) where
   -- one turn of the writer: the masks that are left to write, and then what stands in the space
-  pub trace-turn :
+  pub trace_turn :
       (l whole : List ℕ) (k j : ℕ) → 0 < k → k ≤ length l → whole ≡ trail (parent_at (columns K) w) (mask_at (columns K) w) k j ++ drop k l
       → whole ≡ trail (parent_at (columns K) w) (mask_at (columns K) w) (k - 1) (parent_at (columns K) w j) ++ drop (k - 1) (set l (k - 1) (mask_at (columns K) w j))
-  trace-turn l whole zero j h b e = absurd (omega arith)
-  trace-turn l whole (suc k) j h b e =
+  trace_turn l whole zero j h b e = absurd (omega arith)
+  trace_turn l whole (suc k) j h b e =
       let z : suc k - 1 ≡ k = omega arith in
       e ∙ append_assoc (trail (parent_at (columns K) w) (mask_at (columns K) w) k (parent_at (columns K) w j)) (mask_at (columns K) w j ∷ []) (drop (suc k) l)
       ∙ (rw (z, drop_set l k (mask_at (columns K) w j) (omega arith), add-one))
 
   -- it ends with nothing left to write
-  pub trace-end :
+  pub trace_end :
       (trace trace₀ trace' : List ℕ) (i d m j : ℕ) → d < length trace → trace₀ ≡ set trace d m
       → trail (parent_at (columns K) w) (mask_at (columns K) w) d i ++ drop d trace₀ ≡ trail (parent_at (columns K) w) (mask_at (columns K) w) 0 j ++ drop 0 trace' → trace' ≡ traced K w trace i d m
   unfolding traced
-  trace-end trace trace₀ trace' i d m j h s e = sym e ∙ (rw (s, drop_set trace d m h))
+  trace_end trace trace₀ trace' i d m j h s e = sym e ∙ (rw (s, drop_set trace d m h))
 
   module _ (trace : List ℕ) (i d m : ℕ) where
     abbrev path : List ℕ

@@ -19,10 +19,10 @@ use Rattle.states.proofs.SystemLaws.{reached_proper}
 use Rattle.slots.specs.Layout.{columns, mask_at, Stays}
 use Rattle.slots.specs.Running.{parent_in, Marked}
 use Rattle.slots.proofs.LayoutLaws.{stays_none, stays_join}
-use Rattle.slots.proofs.RunningLaws.{marked_more, marked_last, parent-now}
+use Rattle.slots.proofs.RunningLaws.{marked_more, marked_last, parent_now}
 use Rattle.search.specs.Indexed.{Indexed, Pushed}
 use Rattle.search.specs.Keeping.{FillingIn, Level, MissFrom, Overfull, LevelDone, LevelFull, Fresh, Ran, RanMissed}
-use Rattle.search.proofs.IndexLaws.{indexed-start}
+use Rattle.search.proofs.IndexLaws.{indexed_start}
 
 abbrev pub StandingIn : Table → ℕ → List ℕ → List ℕ → ℕ → ℕ → ℕ → Type 0
 StandingIn t K ends w lo hi d = Standing (system t) (state_in w) (parent_in K ends w) (mask_at (columns K) w) 0 lo hi d
@@ -38,7 +38,7 @@ pub record Stands (t : Table) (K : ℕ) (ends w w' heads' : List ℕ) (lo hi d :
 module _ {t : Table} {K : ℕ} {ends w heads : List ℕ} (fresh : Fresh t K ends w heads) where
   -- no slot is filled yet
   pub none_indexed : Indexed K w heads 0
-  none_indexed = indexed-start w heads fresh.few fresh.fits fresh.buckets fresh.empty
+  none_indexed = indexed_start w heads fresh.few fresh.fits fresh.buckets fresh.empty
 
   -- slot 0 holds the start state: level 0
   pub first_stands : {w₀ heads₀ : List ℕ} {s : State} → s ≡ start → Pushed K w w₀ heads heads₀ 0 s 0 0 → Stands t K ends w₀ w₀ heads₀ 0 1 0
@@ -48,7 +48,7 @@ module _ {t : Table} {K : ℕ} {ends w heads : List ℕ} (fresh : Fresh t K ends
         marked = marked_more fresh.marked (omega arith);
         standing =
             search_start (system t) (state_in w₀) (parent_in K ends w₀) (mask_at (columns K) w₀) (p.state ∙ e)
-            (parent-now fresh.marked (omega arith) (omega arith) K w₀ p.place) p.mask_is;
+            (parent_now fresh.marked (omega arith) (omega arith) K w₀ p.place) p.mask_is;
         rest = stays_none;
         len = refl;
       }
@@ -67,10 +67,10 @@ module _ {t : Table} {K : ℕ} {ends w heads : List ℕ} (fresh : Fresh t K ends
     few = let a = x.indexed.room in let b = x.indexed.few in omega arith
 
     -- the level is done, and it has successors that are new
-    pub next-stands :
+    pub next_stands :
         {ends₂ w₂ heads₂ : List ℕ} {n : ℕ} → Hunting (system t) (state_in w₁) lo hi → LevelDone t K ends₁ ends₂ w₁ w₂ heads₂ lo hi n → (n ≡ hi → ⊥)
         → Stands t K ends₂ w₀ w₂ heads₂ hi n (d + 1)
-    next-stands {ends₂} {w₂} {heads₂} {n} hunted y new =
+    next_stands {ends₂} {w₂} {heads₂} {n} hunted y new =
         let o = y.kept.order in
         record {
           indexed = y.indexed;

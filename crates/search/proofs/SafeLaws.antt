@@ -25,10 +25,10 @@ safe_figures (Safe n) e k = ap Safe (ap (λ f. f.N) (sym e))
 safe_figures (NoRoom n) e k = absurd (let z = ap (λ f. f.kind) e in omega arith)
 
 -- a search that answers Safe was not refused
-pub safe-search :
+pub safe_search :
     {l : Layout} {K q : ℕ} {t : Table} {work work' trace trace' : List ℕ} {f : Figures} → Search l K q t work work' trace trace' f → f.kind ≡ 1
     → (q ≡ 0) × Searched l K t work work' trace trace' (Safe f.N)
-safe-search {l} {K} {q} x k =
+safe_search {l} {K} {q} x k =
     elim (dec_lt 0 q) [
       | yes h ↦ absurd (let z = ap (λ f. f.kind) (x.refused h).0 in omega arith)
       | no h ↦
@@ -49,12 +49,12 @@ unfolding table_refusal
 table_spaces t K trace valid = rw valid
 
 -- a search of a sheet that was not refused had a sheet that is accepted, and such spaces
-reading-passed :
+reading_passed :
     (sheet : List ℕ) (rest : ℕ) (a : Reading) → (sheet_of sheet).answer ≡ a → after_reading a rest ≡ 0 → (a ≡ Reading.Accepted) × (rest ≡ 0)
-reading-passed sheet rest Reading.Accepted e z = (refl, z)
-reading-passed sheet rest (Reading.Refused r) e z = absurd (omega (arith, (sheet_refusal_lem sheet e).0))
+reading_passed sheet rest Reading.Accepted e z = (refl, z)
+reading_passed sheet rest (Reading.Refused r) e z = absurd (omega (arith, (sheet_refusal_lem sheet e).0))
 
-pub sheet-passed :
+pub sheet_passed :
     (sheet : List ℕ) (K : ℕ) (trace : List ℕ) → sheet_refusal sheet K trace ≡ 0 → ((sheet_of sheet).answer ≡ Reading.Accepted) × (spaces_refusal K trace ≡ 0)
 unfolding sheet_refusal
-sheet-passed sheet K trace z = reading-passed sheet (spaces_refusal K trace) (sheet_of sheet).answer refl z
+sheet_passed sheet K trace z = reading_passed sheet (spaces_refusal K trace) (sheet_of sheet).answer refl z

@@ -48,15 +48,15 @@ module _ (l l₂ : Layout) (K : ℕ) (w w' v v' trace trace' trace₂ trace₂' 
   sheet_layouts sheet x y = search_same (rw (sheet_refusal_lem sheet K trace trace₂ long) at x) y
 
 -- LAW: for every table: what a search in columns answers is what one in rows answers, for the same K, whatever the four spaces held
-pub table-rows :
+pub table_rows :
     (t : Table) (w w' v v' trace trace' trace₂ trace₂' : List ℕ) (f g : Figures) → slots_in w ≡ rows_in v → length trace ≡ length trace₂
     → TableSearch t w w' trace trace' f → TableSearchInRows t v v' trace₂ trace₂' g → f ≡ g
-table-rows t w w' v v' trace trace' trace₂ trace₂' f g same long x y =
+table_rows t w w' v v' trace trace' trace₂ trace₂' f g same long x y =
     table_layouts _ _ (rows_in v) w w' v v' trace trace' trace₂ trace₂' f g long t (rw same at x) y
 
 -- LAW: for every sheet
-pub sheet-rows :
+pub sheet_rows :
     (sheet w w' v v' trace trace' trace₂ trace₂' : List ℕ) (f g : Figures) → slots_in w ≡ rows_in v → length trace ≡ length trace₂
     → SheetSearch sheet w w' trace trace' f → SheetSearchInRows sheet v v' trace₂ trace₂' g → f ≡ g
-sheet-rows sheet w w' v v' trace trace' trace₂ trace₂' f g same long x y =
+sheet_rows sheet w w' v v' trace trace' trace₂ trace₂' f g same long x y =
     sheet_layouts _ _ (rows_in v) w w' v v' trace trace' trace₂ trace₂' f g long sheet (rw same at x) y

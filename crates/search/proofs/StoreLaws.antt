@@ -30,7 +30,7 @@ use Rattle.states.specs.System.{step, system}
 use Rattle.states.specs.Masks.{follows}
 use Rattle.slots.specs.Running.{ends_after, Marked}
 use Rattle.slots.proofs.LayoutLaws.{stays_none, stays_join}
-use Rattle.slots.proofs.RunningLaws.{marked_more, marked_same, marked_after, marked_last, parent-now, parent_same, parents-after}
+use Rattle.slots.proofs.RunningLaws.{marked_more, marked_same, marked_after, marked_last, parent_now, parent_same, parents_after}
 use Rattle.search.specs.Indexed.{Indexed}
 use Rattle.search.specs.Keeping.{FillingIn, Level, Known, Added, Crowded, Kept, Carries, RowReady, RowDone, RowFull, BlockReady, Advances, BlockDone, BlockFull, LevelDone, LevelFull}
 use Rattle.states.proofs.MaskTest.{submask}
@@ -52,10 +52,10 @@ kept_join x y =
     }
 
 -- other parents that are the same for the slots filled
-filling-parents :
+filling_parents :
     (sys : System) {at : ℕ → sys.State} {parent parent' : ℕ → ℕ} {mask : ℕ → sys.Mask} {zeroth : sys.Mask} {lo hi n d : ℕ} {T : ℕ → sys.Mask → Type 0}
     → Filling sys at parent mask zeroth lo hi n d T → ((j : ℕ) → j < n → parent' j ≡ parent j) → Filling sys at parent' mask zeroth lo hi n d T
-filling-parents sys {at} {parent} {parent'} {mask} {zeroth} {lo} {hi} {n} {d} x ps =
+filling_parents sys {at} {parent} {parent'} {mask} {zeroth} {lo} {hi} {n} {d} x ps =
     let g = x.grown in
     let o = g.order in
     record {
@@ -168,7 +168,7 @@ module _ {t : Table} {K : ℕ} {w heads : List ℕ} {n i : ℕ} (ready : RowRead
                 let more : Marked ends i n₁ = marked_more marked x.kept.order in
                 rw add-one
                 (search_push (system t) v p.states (λ j a. parent_same ends K w₁ w₂ j (p.words j a)) p.masks l h m grow
-                (parent-now more (omega arith) (omega arith) K w₂ p.place) p.mask_is
+                (parent_now more (omega arith) (omega arith) K w₂ p.place) p.mask_is
                 (rw p.state (gives ends h v)) (λ o. y.absent (rw p.state at o)));
           }
 
@@ -310,8 +310,8 @@ module _ {t : Table} {K : ℕ} {ends ends₁ w w₁ heads₁ : List ℕ} {lo hi 
           indexed = y.indexed;
           marked = rw e at (marked_after more low);
           filled = λ d z.
-              filling-parents (system t) (y.advances ends₁ x.marked lo hi d x.from most (x.filled d z))
-              (parents-after more low (let a = y.indexed.room in let c = y.indexed.few in omega arith) K w₂);
+              filling_parents (system t) (y.advances ends₁ x.marked lo hi d x.from most (x.filled d z))
+              (parents_after more low (let a = y.indexed.room in let c = y.indexed.few in omega arith) K w₂);
         }
 
     pub level_full : {w₂ : List ℕ} → BlockFull t K w₁ w₂ n i to → LevelFull t K ends ends₁ w w₂ lo hi

@@ -26,8 +26,8 @@ use Rattle.tasks.proofs.Choice.{runs_work}
 use Rattle.tasks.proofs.After.{work_on, work_off, work_ran, work_waited}
 use Rattle.tasks.proofs.Legal.{legal_bit}
 use Rattle.tasks.proofs.More.{idle}
-use Rattle.tasks.proofs.Answered.{ticked_refused, ticked-missed, ticked-next, refusal_passed, refusal_fault}
-use Rattle.tasks.proofs.Played.{replayed_refused, replayed_played, replay-names}
+use Rattle.tasks.proofs.Answered.{ticked_refused, ticked_missed, ticked_next, refusal_passed, refusal_fault}
+use Rattle.tasks.proofs.Played.{replayed_refused, replayed_played, replay_names}
 use Rattle.service.specs.declared.totals.Account.{Account}
 use Rattle.service.specs.Totals.{count_next, count_ticks, releases, runs_in, release_count, ticks_run, account_from, account_of, Balanced}
 
@@ -35,10 +35,10 @@ use Rattle.service.specs.Totals.{count_next, count_ticks, releases, runs_in, rel
 
 module _ (t : Table) (i : ℕ) (h : i < 8) (s : State) (mask : ℕ) where
   -- a release adds C to the work left, since a task that may be released has none
-  released-balance :
+  released_balance :
       table_fault t ≡ 0 → improper t s ≡ false → illegal t s mask ≡ false
       → pick (bit mask i) 1 0 * get_or t.work i 0 + get_or s.c i 0 ≡ get_or (released t s mask).c i 0
-  released-balance valid proper legal =
+  released_balance valid proper legal =
       by_bool (bit mask i)
       (λ e.
       let none = idle t s valid proper i h (legal_bit t s mask i h legal e).1 in
@@ -58,12 +58,12 @@ module _ (t : Table) (i : ℕ) (h : i < 8) (s : State) (mask : ℕ) where
       (λ e. rw e (omega (arith, runs_work t r i e, work_ran t s mask i h e)))
       (λ e. rw e (omega (arith, work_waited t s mask i h e))))
 
-  tick-balance :
+  tick_balance :
       refusal t s mask ≤ 0
       → pick (bit mask i) 1 0 * get_or t.work i 0 + get_or s.c i 0 ≡ pick (runs_in t i s mask) 1 0 + get_or (after t s mask).c i 0
-  tick-balance none =
+  tick_balance none =
       let ok = refusal_passed t s mask none in
-      released-balance ok.0 ok.1 ok.2 ∙ run_balance
+      released_balance ok.0 ok.1 ok.2 ∙ run_balance
 
 -- a tick's balance and that of what comes after it
 joined : (x y r q C c d left : ℕ) → x * C + c ≡ y + d → r * C + d ≡ q + left → (x + r) * C + c ≡ y + q + left
@@ -78,23 +78,23 @@ next_most (Refused r) h g = omega arith
 
 module _ (t : Table) (i : ℕ) (h : i < 8) where
   -- LAW: from any state, whatever the answer, releases × C and the work at first are the ticks run and the work left
-  pub played-balance :
+  pub played_balance :
       (s : State) (k : ℕ) (masks : List ℕ)
       → count_ticks t (releases i) s masks * get_or t.work i 0 + get_or s.c i 0
       ≡ count_ticks t (runs_in t i) s masks + get_or (played t s k masks).state.c i 0
   unfolding count_ticks played
-  played-balance s k [] = omega arith
-  played-balance s k (mask ∷ masks) =
+  played_balance s k [] = omega arith
+  played_balance s k (mask ∷ masks) =
       by_bool (ltb 0 (refusal t s mask))
       (λ e. rw (sym (ticked_refused t s mask (ltb-true 0 (refusal t s mask) e))) (omega arith))
       (λ e.
       let none = ltb-false 0 (refusal t s mask) e in
-      let now = tick-balance t i h s mask none in
+      let now = tick_balance t i h s mask none in
       by_bool (missed t (after t s mask))
-      (λ m. rw (sym (ticked-missed t s mask none m)) now)
+      (λ m. rw (sym (ticked_missed t s mask none m)) now)
       (λ m.
-      rw (sym (ticked-next t s mask none m))
-      (joined _ _ _ _ (get_or t.work i 0) _ (get_or (after t s mask).c i 0) _ now (played-balance (after t s mask) (k + 1) masks))))
+      rw (sym (ticked_next t s mask none m))
+      (joined _ _ _ _ (get_or t.work i 0) _ (get_or (after t s mask).c i 0) _ now (played_balance (after t s mask) (k + 1) masks))))
 
 -- LAW: no count exceeds the number of masks
 pub count_most : (t : Table) (test : State → ℕ → Bool) (s : State) (masks : List ℕ) → count_ticks t test s masks ≤ length masks
@@ -112,11 +112,11 @@ none_counted t test s [] bad = refl
 none_counted t test s (mask ∷ masks) bad = rw (sym (ticked_refused t s mask (refusal_fault t s mask bad)))
 
 -- LAW: refusals 4 to 7 have totals that are all 0
-pub no-totals :
+pub no_totals :
     (t : Table) (masks : List ℕ) → 0 < table_fault t
     → account_from (record { answer = Replay.Refused (table_fault t) 0; state = start }) (eight (λ i. 0)) (eight (λ i. 0)) ≡ account_of t masks
 unfolding account_of release_count ticks_run
-no-totals t masks bad =
+no_totals t masks bad =
     ap (λ r. account_from r (eight (λ i. 0)) (eight (λ i. 0))) (replayed_refused t masks bad)
     ∙ ap₂ (account_from (replayed t masks))
     (eight_same (λ i. 0) (release_count t masks) (λ i h. sym (none_counted t (releases i) start masks bad)))
@@ -145,16 +145,16 @@ balance t masks =
     record {
       each = λ i h.
           rw (eight_at 0 (release_count t masks) i h, eight_at 0 (ticks_run t masks) i h, replayed_state t masks)
-          (omega (arith, played-balance t i h start 0 masks, eight_at {A = ℕ} 0 (λ j. 0) i h));
+          (omega (arith, played_balance t i h start 0 masks, eight_at {A = ℕ} 0 (λ j. 0) i h));
     }
 
 -- LAW: the answer and the state of an account are those of the replay, and its totals balance
-pub account-told :
+pub account_told :
     (t : Table) (masks : List ℕ) {r : Account} → r ≡ account_of t masks
     → (replay_answer r.replayed ≡ replay_answer (replayed t masks)) × (r.replayed.state ≡ (replayed t masks).state)
     × (r.totals ≡ (account_of t masks).totals) × Balanced t r.totals × (replay_tick r.replayed.answer ≤ length masks)
 unfolding account_of
-account-told t masks e =
+account_told t masks e =
     let same = ap (λ (x : Account). x.replayed) e in
-    let told = replay-names t masks same in
+    let told = replay_names t masks same in
     (told.0, told.1, ap (λ (x : Account). x.totals) e, rw e (balance t masks), told.2)

@@ -9,7 +9,7 @@ use native.Mathlib.Numerals.{add-one, one-add}
 use lib.ListN.{length, get_or, drop, set, length-append, get_or-append}
 use lib.Seq.{sets, sets-eq, get_or-append-add}
 use borrow.Author.Tests.{lt-ltb, le-ltb}
-use Rattle.tasks.proofs.Stores.{Storing, storing_start, storing-step, storing_last}
+use Rattle.tasks.proofs.Stores.{Storing, storing_start, storing_step, storing_last}
 use Rattle.service.specs.Bytes.{low_first, low_at, row_bytes, rows_of, totals_bytes, totals_space}
 use Rattle.service.specs.declared.totals.Totals.{Totals}
 
@@ -26,7 +26,7 @@ module _ {old : List ℕ} {at : ℕ} {whole : List ℕ} where
       {out : List ℕ} (k m n : ℕ) → Storing old at whole out (at + k) (low_first (suc m) n)
       → Storing old at whole (set out (at + k) (n % 256)) (at + (k + 1)) (low_first m (n / 256))
   unfolding low_first
-  low_turn k m n s = storing-step (n % 256 ∷ []) (low_first m (n / 256)) s refl (omega arith)
+  low_turn k m n s = storing_step (n % 256 ∷ []) (low_first m (n / 256)) s refl (omega arith)
 
 -- ---- the three numbers of a task
 
@@ -47,8 +47,8 @@ row_put old at a b c room e f g =
     let y = low_first 8 b in
     let z = low_first 8 c in
     let s = storing_start old at (x ++ (y ++ z)) (omega (arith, length-append x (y ++ z), length-append y z, low_length 8 a, low_length 8 b, low_length 8 c)) in
-    let s₁ = storing-step x (y ++ z) s {at' = at + 8} e (omega (arith, low_length 8 a)) in
-    let s₂ = storing-step y z s₁ {at' = at + 16} f (omega (arith, low_length 8 b)) in
+    let s₁ = storing_step x (y ++ z) s {at' = at + 8} e (omega (arith, low_length 8 a)) in
+    let s₂ = storing_step y z s₁ {at' = at + 16} f (omega (arith, low_length 8 b)) in
     storing_last z s₂ g
 
 -- ---- the rows
@@ -65,15 +65,15 @@ module _ (x : Totals) where
   unfolding rows_of
   rows_none l = refl
 
-  pub rows-turn :
+  pub rows_turn :
       (l : List ℕ) (n : ℕ) → 24 * n + 24 ≤ length l
       → sets (sets l 0 (rows_of x n)) (24 * n) (row_bytes (get_or x.releases n 0) (get_or x.ran n 0) (get_or x.left n 0)) ≡ sets l 0 (rows_of x (n + 1))
   unfolding rows_of
-  rows-turn l n h =
+  rows_turn l n h =
       let row = row_bytes (get_or x.releases n 0) (get_or x.ran n 0) (get_or x.left n 0) in
       let size = row_length (get_or x.releases n 0) (get_or x.ran n 0) (get_or x.left n 0) in
       let whole = storing_start l 0 (rows_of x n ++ row) (omega (arith, length-append (rows_of x n) row, rows_length n, size)) in
-      rw (add-one n) (storing-step (rows_of x n) row whole {at' = 24 * n} refl (omega (arith, rows_length n))).stored
+      rw (add-one n) (storing_step (rows_of x n) row whole {at' = 24 * n} refl (omega (arith, rows_length n))).stored
 
   -- ---- the space
 
@@ -90,30 +90,30 @@ module _ (x : Totals) where
 
   -- ---- read back
 
-  row-byte :
+  row_byte :
       (n i k : ℕ) → i < n → k < 24
       → get_or (rows_of x n) (24 * i + k) 0 ≡ get_or (row_bytes (get_or x.releases i 0) (get_or x.ran i 0) (get_or x.left i 0)) k 0
   unfolding rows_of
-  row-byte zero i k h b = absurd (let z : i < 0 = h in omega arith)
-  row-byte (suc n) i k h b =
+  row_byte zero i k h b = absurd (let z : i < 0 = h in omega arith)
+  row_byte (suc n) i k h b =
       let l = rows_length n in
       let row = row_bytes (get_or x.releases n 0) (get_or x.ran n 0) (get_or x.left n 0) in
       elim (dec_lt i n) [
-        | yes m ↦ get_or-append (rows_of x n) row 0 (24 * i + k) (omega arith) ∙ row-byte n i k m b
+        | yes m ↦ get_or-append (rows_of x n) row 0 (24 * i + k) (omega arith) ∙ row_byte n i k m b
         | no m ↦
             let e : i ≡ n = omega arith in
             rw e (rw l at (get_or-append-add (rows_of x n) row k 0))
       ]
 
   -- byte k of task i's row in a space with room
-  space-byte :
+  space_byte :
       (out : List ℕ) → 192 ≤ length out → (i k : ℕ) → i < 8 → k < 24
       → get_or (totals_space x out) (24 * i + k) 0 ≡ get_or (row_bytes (get_or x.releases i 0) (get_or x.ran i 0) (get_or x.left i 0)) k 0
   unfolding totals_space
-  space-byte out room i k h b =
+  space_byte out room i k h b =
       let size = rows_length 8 in
       rw (le-ltb (length out) 192 room)
-      (get_or-append (rows_of x 8) (drop 192 out) 0 (24 * i + k) (omega arith) ∙ row-byte 8 i k h b)
+      (get_or-append (rows_of x 8) (drop 192 out) 0 (24 * i + k) (omega arith) ∙ row_byte 8 i k h b)
 
 -- the bytes of a number, wherever they stand, are read as the number
 pub low_read :
@@ -158,7 +158,7 @@ module _ (x : Totals) (out : List ℕ) (room : 192 ≤ length out) (i : ℕ) (h 
       → low_at 8 (totals_space x out) (24 * i + p) ≡ n
   at_row n p b l f =
       low_read 8 n (totals_space x out) (24 * i + p) l
-      (λ j k. ap (λ m. get_or (totals_space x out) m 0) (add_assoc (24 * i) p j) ∙ space-byte x out room i (p + j) h (omega arith) ∙ f j k)
+      (λ j k. ap (λ m. get_or (totals_space x out) m 0) (add_assoc (24 * i) p j) ∙ space_byte x out room i (p + j) h (omega arith) ∙ f j k)
 
   pub releases_read : get_or x.releases i 0 < 256 ^ 8 → low_at 8 (totals_space x out) (24 * i + 0) ≡ get_or x.releases i 0
   releases_read l = at_row (get_or x.releases i 0) 0 (omega arith) l (λ j k. part_first _ _ _ j k)

@@ -31,12 +31,12 @@ module _ (t : Table) (test : State → ℕ → Bool) (l : List ℕ) where
   counted_start = record { sum = sym (zero-add _); few = omega arith }
 
   -- the next tick, by what it answers
-  tick-counted :
+  tick_counted :
       (s : State) (i : ℕ) {r : Ticked} → i < length l → ticked t s (get_or l i 0) ≡ r
       → count_ticks t test s (drop i l)
       ≡ count_next (pick (test s (get_or l i 0)) 1 0) (count_ticks t test r.state (drop (i + 1) l)) r.answer
   unfolding count_ticks
-  tick-counted s i h e = rw (drop_step l i h, e)
+  tick_counted s i h e = rw (drop_step l i h, e)
 
   counted_end : {s : State} {i n : ℕ} → Counted t test l s i n → length l ≤ i → n ≡ count_ticks t test start l
   unfolding count_ticks
@@ -46,15 +46,15 @@ module _ (t : Table) (test : State → ℕ → Bool) (l : List ℕ) where
     counted_next : {s' : State} → ticked t s (get_or l i 0) ≡ answered Next s' → Counted t test l s' (i + 1) (n + pick (test s (get_or l i 0)) 1 0)
     counted_next e =
         record {
-          sum = omega (arith, x.sum, tick-counted s i h e);
+          sum = omega (arith, x.sum, tick_counted s i h e);
           few = omega (arith, x.few, pick_most (test s (get_or l i 0)) 1);
         }
 
     counted_missed : {s' : State} → ticked t s (get_or l i 0) ≡ answered Missed s' → n + pick (test s (get_or l i 0)) 1 0 ≡ count_ticks t test start l
-    counted_missed e = omega (arith, x.sum, tick-counted s i h e)
+    counted_missed e = omega (arith, x.sum, tick_counted s i h e)
 
     counted_refused : {s' : State} {r : ℕ} → ticked t s (get_or l i 0) ≡ answered (Refused r) s' → n ≡ count_ticks t test start l
-    counted_refused e = omega (arith, x.sum, tick-counted s i h e)
+    counted_refused e = omega (arith, x.sum, tick_counted s i h e)
 
 -- ---- a number of each task
 

@@ -18,8 +18,8 @@ use Rattle.tasks.specs.declared.play.Outcome.TheVariants.{Kept, Missed}
 use Rattle.tasks.specs.declared.play.ReplayAnswer.TheVariants.{Played, Refused}
 use Rattle.tasks.specs.declared.play.Replayed.{Replayed}
 use Rattle.tasks.proofs.Proper.{start_proper}
-use Rattle.tasks.proofs.Answered.{ticked-steps, ticked-illegal, ticked_proper}
-use Rattle.tasks.proofs.Played.{played-step, played-end, replayed_played}
+use Rattle.tasks.proofs.Answered.{ticked_steps, ticked_illegal, ticked_proper}
+use Rattle.tasks.proofs.Played.{played_step, played_end, replayed_played}
 use Rattle.service.specs.Totals.{count_ticks, releases, runs_in, release_count, ticks_run, account_from, account_of}
 use Rattle.service.specs.Raised.{Room, raised_at}
 use Rattle.service.proofs.Counting.{Totaled, totaled_start, totaled_room, totaled_end, totaled_refused, totaled_next, totaled_missed}
@@ -37,32 +37,32 @@ module _ (t : Table) (l : List ℕ) where
       record { proper = start_proper t; rest = refl; released = totaled_start t releases l; run = totaled_start t (runs_in t) l }
 
   -- each total can be raised
-  pub playing-room :
+  pub playing_room :
       {s : State} {i : ℕ} {more longer : List ℕ} → Playing t l s i more longer → i < length l → length l ≤ 18446744073709551615
       → Room more × Room longer
-  playing-room x h long = (totaled_room t releases l x.released h long, totaled_room t (runs_in t) l x.run h long)
+  playing_room x h long = (totaled_room t releases l x.released h long, totaled_room t (runs_in t) l x.run h long)
 
   module _ (valid : table_fault t ≡ 0) where
     -- the replay and both totals make the account
-    account-is :
+    account_is :
         {r : Replayed} {more longer : List ℕ} → played t start 0 l ≡ r → more ≡ eight (λ j. count_ticks t (releases j) start l)
         → longer ≡ eight (λ j. count_ticks t (runs_in t j) start l) → account_from r more longer ≡ account_of t l
     unfolding account_of release_count ticks_run
-    account-is e f g = rw (f, g, ← e, ← replayed_played t l (omega (arith, valid)))
+    account_is e f g = rw (f, g, ← e, ← replayed_played t l (omega (arith, valid)))
 
     module _ {s : State} {i : ℕ} {more longer : List ℕ} (x : Playing t l s i more longer) where
       -- no mask is left
       pub playing_kept : length l ≤ i → account_from (record { answer = Played Kept; state = s }) more longer ≡ account_of t l
       playing_kept h =
-          account-is (x.rest ∙ played-end t s l i h) (totaled_end t releases l x.released h) (totaled_end t (runs_in t) l x.run h)
+          account_is (x.rest ∙ played_end t s l i h) (totaled_end t releases l x.released h) (totaled_end t (runs_in t) l x.run h)
 
       module _ (h : i < length l) where
         -- the next mask is not legal
-        pub playing-refused :
+        pub playing_refused :
             illegal t s (get_or l i 0) ≡ true → account_from (record { answer = Refused 11 (i + 1); state = s }) more longer ≡ account_of t l
-        playing-refused bad =
-            let e = ticked-illegal t s (get_or l i 0) valid x.proper bad in
-            account-is (x.rest ∙ played-step t s l i h (sym e) refl) (totaled_refused t releases l x.released h e) (totaled_refused t (runs_in t) l x.run h e)
+        playing_refused bad =
+            let e = ticked_illegal t s (get_or l i 0) valid x.proper bad in
+            account_is (x.rest ∙ played_step t s l i h (sym e) refl) (totaled_refused t releases l x.released h e) (totaled_refused t (runs_in t) l x.run h e)
 
         -- the next mask is legal: the steps of its tick, and the totals raised by it
         module _
@@ -79,20 +79,20 @@ module _ (t : Table) (l : List ℕ) where
             who j b = ap (λ (k : List Bool). get_or k j false) (run_is ∙ ap (chosen t) r-is)
 
             now : ticked t s (get_or l i 0) ≡ answered (pick (missed t next) Tick.Missed Tick.Next) next
-            now = ticked-steps t s (get_or l i 0) r-is run_is next-is valid x.proper legal
+            now = ticked_steps t s (get_or l i 0) r-is run_is next-is valid x.proper legal
 
-            pub playing-missed :
+            pub playing_missed :
                 missed t next ≡ true → account_from (record { answer = Played (Missed (i + 1)); state = next }) more' longer' ≡ account_of t l
-            playing-missed m =
+            playing_missed m =
                 let e : ticked t s (get_or l i 0) ≡ answered Tick.Missed next = rw m at now in
-                account-is (x.rest ∙ played-step t s l i h (sym e) refl) (totaled_missed t releases l x.released h named which more-is e) (totaled_missed t (runs_in t) l x.run h run who longer-is e)
+                account_is (x.rest ∙ played_step t s l i h (sym e) refl) (totaled_missed t releases l x.released h named which more-is e) (totaled_missed t (runs_in t) l x.run h run who longer-is e)
 
             pub playing_next : missed t next ≡ false → Playing t l next (i + 1) more' longer'
             playing_next m =
                 let e : ticked t s (get_or l i 0) ≡ answered Tick.Next next = rw m at now in
                 record {
                   proper = rw e at (ticked_proper t s (get_or l i 0) (ap (λ a. a.answer) e));
-                  rest = x.rest ∙ played-step t s l i h (sym e) refl;
+                  rest = x.rest ∙ played_step t s l i h (sym e) refl;
                   released = totaled_next t releases l x.released h named which more-is e;
                   run = totaled_next t (runs_in t) l x.run h run who longer-is e;
                 }

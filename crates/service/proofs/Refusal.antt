@@ -18,7 +18,7 @@ use Rattle.tasks.specs.declared.state.State.{State}
 use Rattle.tasks.specs.declared.table.Table.{Table}
 use Rattle.tasks.specs.declared.play.Outcome.TheVariants.{Kept}
 use Rattle.tasks.specs.declared.play.ReplayAnswer.TheVariants.{Played, Refused}
-use Rattle.tasks.proofs.Answered.{ticked_refused, ticked-missed, ticked-next}
+use Rattle.tasks.proofs.Answered.{ticked_refused, ticked_missed, ticked_next}
 use Rattle.tasks.proofs.Played.{replayed_played}
 use Rattle.service.specs.Totals.{count_ticks, releases, runs_in, release_count, ticks_run, account_from, account_of}
 
@@ -43,19 +43,19 @@ module _ (t : Table) where
       (λ b.
       let passed = ltb-false 0 (refusal t s mask) b in
       by_bool (missed t (after t s mask))
-      (λ m. absurd (let q = rw (sym (ticked-missed t s mask passed m)) at e in let z : ◌≡◌ {A = ℕ} 0 1 = cc in omega arith))
+      (λ m. absurd (let q = rw (sym (ticked_missed t s mask passed m)) at e in let z : ◌≡◌ {A = ℕ} 0 1 = cc in omega arith))
       (λ m.
-      let now = sym (ticked-next t s mask passed m) in
+      let now = sym (ticked_next t s mask passed m) in
       let f = front (after t s mask) (k + 1) masks r n (rw now at e) in
       let less : n - (k + 1) ≡ suc (n - (k + 1 + 1)) = omega (arith, f.later) in
       record { later = omega (arith, f.later); kept = rw (less, now) f.kept; counts = λ test. rw (less, now) (ap (λ c. pick (test s mask) 1 0 + c) (f.counts test)) }))
 
 -- LAW: where a tick is refused, the masks before it are kept, with the state and the totals that the refusal returns
-pub refused-front :
+pub refused_front :
     (t : Table) (l : List ℕ) (r n : ℕ) → table_fault t ≡ 0 → (replayed t l).answer ≡ Refused r n
     → account_of t (take (n - 1) l) ≡ account_from (record { answer = Played Kept; state = (replayed t l).state }) (eight (release_count t l)) (eight (ticks_run t l))
 unfolding account_of release_count ticks_run
-refused-front t l r n valid e =
+refused_front t l r n valid e =
     let none : table_fault t ≤ 0 = omega arith in
     let whole = replayed_played t l none in
     let f = front t start 0 l r n (ap (λ a. a.answer) whole ∙ e) in

@@ -21,12 +21,12 @@ use Rattle.lists.proofs.Bools.{by_bool}
 use Rattle.tasks.proofs.Answers.{other, second, tick_is}
 
 -- a step, from the tick and its answer
-pub step-told :
+pub step_told :
     (t : Table) (x : Session) (mask : ℕ) {r : Ticked} {a : TickAnswer} {y : Session}
     → r ≡ step_tick t x mask → r.answer ≡ a → y ≡ after_tick x r.state a
     → (tick_answer r ≡ tick_answer (stepped t x mask).ticked) × (r.state ≡ (stepped t x mask).ticked.state) × (y ≡ (stepped t x mask).session)
 unfolding stepped
-step-told t x mask {r} {a} {y} e q h =
+step_told t x mask {r} {a} {y} e q h =
     (ap tick_answer e, ap (λ z. z.state) e, h ∙ ap (after_tick x r.state) (sym q) ∙ ap (λ z. after_tick x z.state z.answer) e)
 
 pub called_told : {a b : Called} → a ≡ b → (session_answer a.answer ≡ session_answer b.answer) × (a.session ≡ b.session)
@@ -56,10 +56,10 @@ pub called_is : {a b : Called} → (session_answer a.answer ≡ session_answer b
 called_is e = ap₂ (λ a x. record { answer = a; session = x }) (session_answer_is e.0) e.1
 
 -- the promise of a call, by which of the three it is
-pub call-told :
+pub call_told :
     (t : Table) (x : Session) {r : Called} {c c' : Call} → c ≡ c' → r ≡ outcome t x c'
     → (session_answer r.answer ≡ session_answer (call_answer t x c)) × (r.session ≡ called t x c)
-call-told t x q e = called_told (e ∙ ap (outcome t x) (sym q))
+call_told t x q e = called_told (e ∙ ap (outcome t x) (sym q))
 
 -- ---- a call that is not done
 

@@ -148,13 +148,13 @@ module _ (t : Table) (valid : table_fault t ≡ 0) where
       (λ h. absurd (let q = rw h at e in let z : ◌≡◌ {A = ℕ} 0 1 = cc in omega arith))
       (λ h. rw h)
 
-  step-noted :
+  step_noted :
       (x : Session) (h : Record) (mask : ℕ) (s : State) (a : TickAnswer)
       → (a ≡ Tick.Next → KeptAs t (h.list ++ (mask ∷ [])) s) → OnRecord t x h → OnRecord t (after_tick x s a) (noted h (Step mask) (step_answer a))
-  step-noted x h mask s Tick.Next f on =
+  step_noted x h mask s Tick.Next f on =
       record { present = f refl; marks = λ k. subst (λ m. MarkOnRecord t m (h.stored k)) (sym (mark_moved x s k)) (on.marks k) }
-  step-noted x h mask s Tick.Missed f on = on
-  step-noted x h mask s (Tick.Refused r) f on = on
+  step_noted x h mask s Tick.Missed f on = on
+  step_noted x h mask s (Tick.Refused r) f on = on
 
   set_noted : (x : Session) (h : Record) (k : ℕ) → outside k ≡ false → OnRecord t x h → OnRecord t (marked x k) (stored_under h k)
   set_noted x h k e on =
@@ -167,11 +167,11 @@ module _ (t : Table) (valid : table_fault t ≡ 0) where
       }
 
   -- the list under a mark that is set is brought back
-  return-noted :
+  return_noted :
       (x : Session) (h : Record) (k : ℕ) (u : Stored) → (mark_at x k).set ≡ true → MarkOnRecord t (mark_at x k) u → OnRecord t x h
       → OnRecord t (moved x (mark_at x k).state) (brought_back h u)
-  return-noted x h k Nothing set unset on = clash set unset
-  return-noted x h k (Listed l) set stored on =
+  return_noted x h k Nothing set unset on = clash set unset
+  return_noted x h k (Listed l) set stored on =
       record {
         present = stored.1;
         marks = λ j. subst (λ m. MarkOnRecord t m (h.stored j)) (sym (mark_moved x (mark_at x k).state j)) (on.marks j);
@@ -181,7 +181,7 @@ module _ (t : Table) (valid : table_fault t ≡ 0) where
   pub call_noted : (x : Session) (h : Record) (c : Call) → OnRecord t x h → OnRecord t (called t x c) (noted h c (call_answer t x c))
   unfolding stepped mark_set returned set_refusal return_refusal
   call_noted x h (Step mask) on =
-      step-noted x h mask (step_tick t x mask).state (step_tick t x mask).answer
+      step_noted x h mask (step_tick t x mask).state (step_tick t x mask).answer
       (λ e.
       let q = next_is_tick x mask e in
       rw q (kept_more t valid h.list x.present mask on.present (ap (λ r. r.answer) (sym q) ∙ e)))
@@ -199,7 +199,7 @@ module _ (t : Table) (valid : table_fault t ≡ 0) where
       (λ z e.
       let free = none_of (session_fault t x) (first_of (beyond k) (never_set x k)) z in
       let set = was_set x k (none_of (beyond k) (never_set x k) free.1).1 in
-      subst Both (sym e) (return-noted x h k (h.stored k) set (on.marks k) on))
+      subst Both (sym e) (return_noted x h k (h.stored k) set (on.marks k) on))
       (λ e. subst Both (sym e) on)
 
   calls_noted : (x : Session) (h : Record) (cs : List Call) → OnRecord t x h → OnRecord t (session_after t x cs) (record_after t x h cs)

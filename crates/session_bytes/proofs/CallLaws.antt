@@ -15,12 +15,12 @@ use Rattle.session.specs.declared.calls.SessionAnswer.TheVariants.{Refused}
 use Rattle.session_bytes.specs.Space.{session_from, space_by, space_after, sheet_call, sheet_space}
 
 -- with a table, by the call's answer
-pub table-told :
+pub table_told :
     (t : Table) (b : List ℕ) (c : Call) {r : Called} {a : SessionAnswer} {b' : List ℕ} → r ≡ outcome t (session_from b) c → r.answer ≡ a
     → b' ≡ space_by a r.session b
     → (session_answer a ≡ session_answer (outcome t (session_from b) c).answer) × (b' ≡ space_after (outcome t (session_from b) c) b)
 unfolding space_after
-table-told t b c {r} {a} {b'} e q h = (
+table_told t b c {r} {a} {b'} e q h = (
   ap session_answer (sym q ∙ ap (λ z. z.answer) e),
   h ∙ ap (λ z. space_by z r.session b) (sym q) ∙ ap (λ z. space_by z.answer z.session b) e,
 )
@@ -40,17 +40,17 @@ module _ (sheet b : List ℕ) (c : Call) where
     space_short h = let s = lt-ltb (length b) 145 h in (rw (e, s), rw (e, s))
 
     -- the call of the sheet's table
-    pub sheet-calls :
+    pub sheet_calls :
         145 ≤ length b → (sheet_call sheet b c ≡ (outcome (sheet_of sheet).table (session_from b) c).answer)
         × (sheet_space sheet b c ≡ space_after (outcome (sheet_of sheet).table (session_from b) c) b)
     unfolding sheet_call sheet_space
-    sheet-calls h = let s = le-ltb (length b) 145 h in (rw (e, s), rw (e, s))
+    sheet_calls h = let s = le-ltb (length b) 145 h in (rw (e, s), rw (e, s))
 
-    pub sheet-called :
+    pub sheet_called :
         {t : Table} (a : SessionAnswer) {b' : List ℕ} → 145 ≤ length b → t ≡ (sheet_of sheet).table
         → (session_answer a ≡ session_answer (outcome t (session_from b) c).answer) × (b' ≡ space_after (outcome t (session_from b) c) b) → Told a b'
-    sheet-called a h q w =
-        let s = sheet-calls h in (
+    sheet_called a h q w =
+        let s = sheet_calls h in (
           w.0 ∙ ap (λ t. session_answer (outcome t (session_from b) c).answer) q ∙ ap session_answer (sym s.0),
           w.1 ∙ ap (λ t. space_after (outcome t (session_from b) c) b) q ∙ sym s.1,
         )

@@ -13,7 +13,7 @@ use Rattle.session.specs.Session.{mark_in}
 use Rattle.session.specs.declared.marks.Session.{Session}
 use Rattle.session_bytes.specs.Space.{place, mark_written, marks_written}
 use Rattle.lists.proofs.Bools.{by_bool}
-use Rattle.slots.proofs.Bytes.{state_same, state_length, lent-sets}
+use Rattle.slots.proofs.Bytes.{state_same, state_length, lent_sets}
 use Rattle.slots.proofs.WriteLaws.{space_room}
 
 -- the rest of a list after its first
@@ -28,11 +28,11 @@ state_after w j =
     ∙ state_same (drop 1 w) w (16 * j) (place j) (λ k h. get_or-drop 1 w (16 * j + k) 0 ∙ ap (λ n. get_or w n 0) (omega arith))
 
 -- a state written alone in the part of a space that starts at its place
-pub state-put :
+pub state_put :
     (w : List ℕ) (at : ℕ) (s : State) {part : List ℕ} → part ≡ state_space s (take (length w - at) (drop at w)) → at + 16 ≤ length w
     → take at w ++ (part ++ drop (length w - at) (drop at w)) ≡ sets w at (state_bytes s)
-state-put w at s e h =
-    lent-sets w at (state_bytes s) _
+state_put w at s e h =
+    lent_sets w at (state_bytes s) _
     (e ∙ (space_room s (take (length w - at) (drop at w)) (room)).1)
     (omega (arith, state_length s))
   where

@@ -32,7 +32,7 @@ use Rattle.slots.proofs.Bytes.{sets_other, sets_here, state_length, state_read}
 use Rattle.session.proofs.Theorems.{record_law, no_thirteen}
 use Rattle.session.proofs.CallLaws.{not_done}
 use Rattle.session_bytes.proofs.SpaceLaws.{marks_length}
-use Rattle.session_bytes.proofs.CallLaws.{sheet-calls}
+use Rattle.session_bytes.proofs.CallLaws.{sheet_calls}
 use Rattle.session_bytes.proofs.Plain.{Plain, from_plain, called_plain}
 
 -- ---- which bytes a mark's writing touches
@@ -50,24 +50,24 @@ unfolding marks_written
 marks_before x zero b k h = refl
 marks_before x (suc n) b k h = mark_other x n (marks_written x n b) k (inl (omega arith)) ∙ marks_before x n b k h
 
-mark-here :
+mark_here :
     (x : Session) (i : ℕ) (b : List ℕ) (k : ℕ) → (mark_in x i).set ≡ true → place (i + 1) + 16 ≤ length b → k < 16
     → get_or (mark_written x i b) (place (i + 1) + k) 0 ≡ get_or (state_bytes (mark_in x i).state) k 0
 unfolding mark_written
-mark-here x i b k e room h =
+mark_here x i b k e room h =
     let n = state_length (mark_in x i).state in
     rw e (sets_here (state_bytes (mark_in x i).state) b (place (i + 1)) k (omega arith) (omega arith))
 
 -- the bytes of a mark that is set, after it was written
-marks-here :
+marks_here :
     (x : Session) (n : ℕ) (b : List ℕ) (i k : ℕ) → i < n → n ≤ 8 → (mark_in x i).set ≡ true → 145 ≤ length b → k < 16
     → get_or (marks_written x n b) (place (i + 1) + k) 0 ≡ get_or (state_bytes (mark_in x i).state) k 0
 unfolding marks_written
-marks-here x zero b i k h m e room l = absurd (omega arith)
-marks-here x (suc n) b i k h m e room l =
+marks_here x zero b i k h m e room l = absurd (omega arith)
+marks_here x (suc n) b i k h m e room l =
     elim (ℕ_discrete i n) [
-      | yes q ↦ rw (← q) (mark-here x i (marks_written x i b) k e (omega (arith, marks_length x i b)) l)
-      | no q ↦ mark_other x n (marks_written x n b) (place (i + 1) + k) (inl (omega arith)) ∙ marks-here x n b i k (omega arith) (omega arith) e room l
+      | yes q ↦ rw (← q) (mark_here x i (marks_written x i b) k e (omega (arith, marks_length x i b)) l)
+      | no q ↦ mark_other x n (marks_written x n b) (place (i + 1) + k) (inl (omega arith)) ∙ marks_here x n b i k (omega arith) (omega arith) e room l
     ]
 
 module _ (x : Session) (b : List ℕ) (plain : Plain x) (room : 145 ≤ length b) where
@@ -101,7 +101,7 @@ module _ (x : Session) (b : List ℕ) (plain : Plain x) (room : 145 ≤ length b
   state_back i h e =
       let eight = (plain.marks i h).state in
       state_read (mark_in x i).state (session_written x b) (place (i + 1)) eight.c eight.p
-      (λ k l. marks-here x 8 (sets b 0 head) i k h (omega arith) e long l)
+      (λ k l. marks_here x 8 (sets b 0 head) i k h (omega arith) e long l)
 
   mark_back : (i : ℕ) → i < 8 → mark_from (session_written x b) i ≡ mark_in x i
   unfolding mark_from
@@ -128,11 +128,11 @@ by_length Done x b = written_length x b
 by_length Missed x b = refl
 by_length (Refused r) x b = refl
 
-by-back :
+by_back :
     (a : SessionAnswer) (x : Session) (b : List ℕ) → Plain x → 145 ≤ length b → ((a ≡ Done → ⊥) → x ≡ session_from b) → session_from (space_by a x b) ≡ x
-by-back Done x b plain room f = written_read x b plain room
-by-back Missed x b plain room f = sym (f (λ e. let z : ◌≡◌ {A = ℕ} 0 1 = cc in omega arith))
-by-back (Refused r) x b plain room f = sym (f (λ e. let z : ◌≡◌ {A = ℕ} 0 1 = cc in omega arith))
+by_back Done x b plain room f = written_read x b plain room
+by_back Missed x b plain room f = sym (f (λ e. let z : ◌≡◌ {A = ℕ} 0 1 = cc in omega arith))
+by_back (Refused r) x b plain room f = sym (f (λ e. let z : ◌≡◌ {A = ℕ} 0 1 = cc in omega arith))
 
 module _ (sheet : List ℕ) (accepted : (sheet_of sheet).answer ≡ Reading.Accepted) where
   abbrev table : Table
@@ -141,15 +141,15 @@ module _ (sheet : List ℕ) (accepted : (sheet_of sheet).answer ≡ Reading.Acce
   call_length : (b : List ℕ) (c : Call) → 145 ≤ length b → length (sheet_space sheet b c) ≡ length b
   unfolding space_after
   call_length b c room =
-      ap length (sheet-calls sheet b c accepted room).1 ∙ by_length (call_answer table (session_from b) c) (called table (session_from b) c) b
+      ap length (sheet_calls sheet b c accepted room).1 ∙ by_length (call_answer table (session_from b) c) (called table (session_from b) c) b
 
   -- LAW: the session in the bytes after a call is the session after the call
   pub call_back : (b : List ℕ) (c : Call) → 145 ≤ length b → session_from (sheet_space sheet b c) ≡ called table (session_from b) c
   unfolding space_after
   call_back b c room =
       let x = session_from b in
-      ap session_from (sheet-calls sheet b c accepted room).1
-      ∙ by-back (call_answer table x c) (called table x c) b (called_plain table x c (from_plain b)) room (not_done table x c)
+      ap session_from (sheet_calls sheet b c accepted room).1
+      ∙ by_back (call_answer table x c) (called table x c) b (called_plain table x c (from_plain b)) room (not_done table x c)
 
   -- ---- lists of calls
 
@@ -199,7 +199,7 @@ module _ (sheet : List ℕ) (accepted : (sheet_of sheet).answer ≡ Reading.Acce
     pub bytes_answer : (cs : List Call) (c : Call) → sheet_call sheet (calls_space sheet b cs) c ≡ call_answer table (session_after table fresh cs) c
     bytes_answer cs c =
         let e = calls_length b cs room in
-        (sheet-calls sheet (calls_space sheet b cs) c accepted (omega arith)).0 ∙ ap (λ x. call_answer table x c) (session_back cs)
+        (sheet_calls sheet (calls_space sheet b cs) c accepted (omega arith)).0 ∙ ap (λ x. call_answer table x c) (session_back cs)
 
     -- THEOREM: .. and none answers 13
     pub bytes_thirteen : (cs : List Call) (c : Call) → sheet_call sheet (calls_space sheet b cs) c ≡ Refused 13 → ⊥

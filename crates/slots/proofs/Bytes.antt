@@ -40,10 +40,10 @@ abbrev given : List ℕ → ℕ → List ℕ → List ℕ
 given w a part = take a w ++ (part ++ drop (length w - a) (drop a w))
 
 -- .. with a run of stores at its front
-pub lent-sets :
+pub lent_sets :
     (w : List ℕ) (a : ℕ) (vs part : List ℕ) → part ≡ sets (take (length w - a) (drop a w)) 0 vs → a + length vs ≤ length w
     → given w a part ≡ sets w a vs
-lent-sets w a vs part e h =
+lent_sets w a vs part e h =
     let l : length (drop a w) ≤ length w - a = simp length-drop (omega arith) in
     let n : length (drop a w) ≡ length w - a = length-drop a w in
     let all : part ≡ sets (drop a w) 0 vs = e ∙ ap (λ (q : List ℕ). sets q 0 vs) (take_all (length w - a) (drop a w) l) in
@@ -54,18 +54,18 @@ lent-sets w a vs part e h =
     ∙ sym (sets-eq vs w a h)
 
 -- three parts lent one after the other
-pub lent-three :
+pub lent_three :
     (w : List ℕ) (a b c : ℕ) (us vs ts : List ℕ) {p q r : List ℕ} → p ≡ sets (take (length w - a) (drop a w)) 0 us
     → q ≡ sets (take (length (given w a p) - b) (drop b (given w a p))) 0 vs
     → r ≡ sets (take (length (given (given w a p) b q) - c) (drop c (given (given w a p) b q))) 0 ts
     → a + length us ≤ length w → b + length vs ≤ length w → c + length ts ≤ length w
     → given (given (given w a p) b q) c r ≡ sets (sets (sets w a us) b vs) c ts
-lent-three w a b c us vs ts {p} {q} {r} e₁ e₂ e₃ h₁ h₂ h₃ =
-    let first = lent-sets w a us p e₁ h₁ in
+lent_three w a b c us vs ts {p} {q} {r} e₁ e₂ e₃ h₁ h₂ h₃ =
+    let first = lent_sets w a us p e₁ h₁ in
     let long : length (given w a p) ≡ length w = ap length first ∙ length-sets w a us in
-    let second = lent-sets (given w a p) b vs q e₂ (omega arith) in
+    let second = lent_sets (given w a p) b vs q e₂ (omega arith) in
     let longer : length (given (given w a p) b q) ≡ length w = ap length second ∙ length-sets (given w a p) b vs ∙ long in
-    lent-sets (given (given w a p) b q) c ts r e₃ (omega arith)
+    lent_sets (given (given w a p) b q) c ts r e₃ (omega arith)
     ∙ ap (λ (l : List ℕ). sets l c ts) (second ∙ ap (λ (l : List ℕ). sets l b vs) first)
 
 -- ---- a state

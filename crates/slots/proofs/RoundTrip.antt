@@ -56,20 +56,20 @@ module _ {l : Layout} {K : ℕ} (apart : Apart l K) where
       ∙ (rw (old, slot_read w i x low fits s.0, append_assoc (read_slots l w i) (x ∷ []) xs))
 
 -- LAW: in a layout whose parts do not overlap, slots written are read back, for any list of at most K slots
-pub read-written :
+pub read_written :
     {l : Layout} {K : ℕ} → Apart l K → (w : List ℕ) → FitsIn l K (length w) → (xs : List Slot) → length xs ≤ K → AllSized xs
     → read_slots l (write_slots l w xs) (length xs) ≡ xs
-read-written {l} {K} apart w fits xs h s = let e : 0 + length xs ≡ length xs = omega arith in ap (read_slots l (write_slots l w xs)) (sym e) ∙ written_from apart xs w 0 (omega arith) fits s
+read_written {l} {K} apart w fits xs h s = let e : 0 + length xs ≡ length xs = omega arith in ap (read_slots l (write_slots l w xs)) (sym e) ∙ written_from apart xs w 0 (omega arith) fits s
 
 -- LAW: the two cases
 pub read_columns : (K : ℕ) (w : List ℕ) → 21 * K ≤ length w → (xs : List Slot) → length xs ≤ K → AllSized xs → read_slots (columns K) (write_slots (columns K) w xs) (length xs) ≡ xs
-read_columns K w h xs = read-written (columns_apart K) w (columns_fit K (length w) h) xs
+read_columns K w h xs = read_written (columns_apart K) w (columns_fit K (length w) h) xs
 
 pub read_rows : (K : ℕ) (w : List ℕ) → 24 * K ≤ length w → (xs : List Slot) → length xs ≤ K → AllSized xs → read_slots rows (write_slots rows w xs) (length xs) ≡ xs
-read_rows K w h xs = read-written (rows_apart K) w (rows_fit K (length w) h) xs
+read_rows K w h xs = read_written (rows_apart K) w (rows_fit K (length w) h) xs
 
 -- LAW: "written in either layout, reads back as the same slots", whatever the spaces held
-pub same-slots :
+pub same_slots :
     (K : ℕ) (w w' : List ℕ) → 21 * K ≤ length w → 24 * K ≤ length w' → (xs : List Slot) → length xs ≤ K → AllSized xs
     → read_slots (columns K) (write_slots (columns K) w xs) (length xs) ≡ read_slots rows (write_slots rows w' xs) (length xs)
-same-slots K w w' h h' xs few s = read_columns K w h xs few s ∙ sym (read_rows K w' h' xs few s)
+same_slots K w w' h h' xs few s = read_columns K w h xs few s ∙ sym (read_rows K w' h' xs few s)

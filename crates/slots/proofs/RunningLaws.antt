@@ -58,10 +58,10 @@ pub record Put (K : ℕ) (w w' : List ℕ) (n : ℕ) (s : State) (word mask : �
   pub rest : Stays (columns K) (n + 1) w w'
 
 -- LAW: a slot written in columns
-pub put-slot :
+pub put_slot :
     {K : ℕ} (w : List ℕ) {n : ℕ} (s : State) (word mask : ℕ) → n < K → 21 * K ≤ length w → length s.c ≡ 8 → length s.p ≡ 8 → word < 4294967296
     → Put K w (write_slot (columns K) w n (slot s word mask)) n s word mask
-put-slot {K} w {n} s word mask low fits hc hp small =
+put_slot {K} w {n} s word mask low fits hc hp small =
     let apart = columns_apart K in
     let x = slot s word mask in
     let room = columns_fit K (length w) fits in
@@ -187,18 +187,18 @@ module _ {ends : List ℕ} {i n : ℕ} (x : Marked ends i n) where
   marked_last h = x.unset 244 (omega arith) (omega arith)
 
 -- LAW: the parents of the slots filled stay when a slot has been tried
-pub parents-after :
+pub parents_after :
     {ends : List ℕ} {i n : ℕ} → Marked ends i n → i < 1000000 → n ≤ 1000000 → (K : ℕ) (w : List ℕ) (j : ℕ) → j < n
     → parent_in K (ends_after ends i n) w j ≡ parent_in K ends w j
 unfolding parent_in
-parents-after x low most K w j h = rw (block_after x low most j h)
+parents_after x low most K w j h = rw (block_after x low most j h)
 
 -- LAW: the parent of slot n, whose word was made while slot i was tried
-pub parent-now :
+pub parent_now :
     {ends : List ℕ} {i n : ℕ} → Marked ends i n → i < 1000000 → n < 1000000 → (K : ℕ) (w : List ℕ) → word_at K w n / 1048576 ≡ i % 4096
     → parent_in K ends w n ≡ i
 unfolding parent_in
-parent-now {ends} {i} {n} x low few K w e = rw (block_now x low few, e) (let d = div-add-mod' i 4096 in omega arith)
+parent_now {ends} {i} {n} x low few K w e = rw (block_now x low few, e) (let d = div-add-mod' i 4096 in omega arith)
 
 -- slots with the same words have the same parents
 pub parent_same : (ends : List ℕ) (K : ℕ) (w w' : List ℕ) (j : ℕ) → word_at K w' j ≡ word_at K w j → parent_in K ends w' j ≡ parent_in K ends w j
@@ -256,10 +256,10 @@ module _ {K : ℕ} {ends w w' : List ℕ} {i : ℕ} (x : Settling K ends w w' i)
       rw (x.left i (omega arith) low)
       (let a = 16 * K + 4 * i in let e = bytes a in let f = bytes (a + 1) in let g = bytes (a + 2) in let h = bytes (a + 3) in omega arith)
 
-  pub settling-next :
+  pub settling_next :
       {b : ℕ} → b ≡ block_of ends i → b < 245 → ((j : ℕ) → get_or w j 0 < 256)
       → Settling K ends w (sets w' (16 * K + 4 * i) (four_bytes (4096 * b + word_at K w' i / 1048576))) (i + 1)
-  settling-next {b} is few bytes =
+  settling_next {b} is few bytes =
       rw (parent_part K w' i (4096 * b + word_at K w' i / 1048576))
       (settling_part (4096 * b + word_at K w' i / 1048576) (parent_by b is) (let small = word_fits bytes in omega arith))
 

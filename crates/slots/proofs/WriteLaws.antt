@@ -9,7 +9,7 @@ use lib.Seq.{sets, sets-eq}
 use borrow.Author.Tests.{lt-ltb, le-ltb}
 use Rattle.tasks.specs.declared.state.State.{State}
 use Rattle.tasks.specs.declared.writer.Writing.TheVariants as Writing
-use Rattle.tasks.proofs.Stores.{storing_start, storing-step}
+use Rattle.tasks.proofs.Stores.{storing_start, storing_step}
 use Rattle.states.specs.Bytes.{twos, state_bytes}
 use Rattle.slots.specs.StateSpace.{state_writing, state_space}
 use Rattle.slots.proofs.Bytes.{twos_length}
@@ -17,17 +17,17 @@ use Rattle.slots.proofs.Bytes.{twos_length}
 -- a run of stores in two parts
 sets_append : (l a b : List ℕ) → length a + length b ≤ length l → sets l 0 (a ++ b) ≡ sets (sets l 0 a) (length a) b
 sets_append l a b h =
-    sym (storing-step a b (storing_start l 0 (a ++ b) (omega (arith, length-append a b))) {at' = length a} refl (omega arith)).stored
+    sym (storing_step a b (storing_start l 0 (a ++ b) (omega (arith, length-append a b))) {at' = length a} refl (omega arith)).stored
 
 twos_more : (k : ℕ) (f g : ℕ → ℕ) → twos (suc k) f g ≡ twos k f g ++ f k ∷ g k ∷ []
 twos_more zero f g = refl
 twos_more (suc k) f g = ap (λ (l : List ℕ). f 0 ∷ g 0 ∷ l) (twos_more k (λ j. f (suc j)) (λ j. g (suc j)))
 
 -- one turn of the writer's loop
-pub put-turn :
+pub put_turn :
     (l₀ l : List ℕ) (k : ℕ) (f g : ℕ → ℕ) → 2 * k + 2 ≤ length l₀ → l ≡ sets l₀ 0 (twos k f g)
     → set (set l (2 * k) (f k)) (2 * k + 1) (g k) ≡ sets l₀ 0 (twos (k + 1) f g)
-put-turn l₀ l k f g h e =
+put_turn l₀ l k f g h e =
     rw (add-one k, twos_more k f g, sets_append l₀ (twos k f g) (f k ∷ g k ∷ []) (omega (arith, twos_length k f g)), twos_length k f g, add-one (2 * k), e)
 
 -- a state alone at the front of a space that is long enough

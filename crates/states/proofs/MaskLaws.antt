@@ -71,12 +71,12 @@ module _ (free : ℕ) where
       ]
 
   -- and for each submask from x on, that `follows` is the first after it
-  test-next :
+  test_next :
       (k x due : ℕ) → x + k ≡ 256 → checks k free x due ≡ true
       → (m : ℕ) → x ≤ m → m < 256 → submask free m ≡ true → First free (suc m) (follows free m)
   unfolding checks
-  test-next zero x due e h m l b s = absurd (omega arith)
-  test-next (suc k) x due e h m l b s =
+  test_next zero x due e h m l b s = absurd (omega arith)
+  test_next (suc k) x due e h m l b s =
       let rest = checks k free (suc x) (pick (eqb x due) (follows free x) due) in
       let here : submask free x ≡ eqb x due =
       same_is (submask free x) (eqb x due) (and_left (same (submask free x) (eqb x due)) rest h) in
@@ -85,12 +85,12 @@ module _ (free : ℕ) where
         | yes q ↦
             let on : eqb x due ≡ true = sym here ∙ ap (submask free) q ∙ s in
             rw (sym q) (test_first k (suc x) (follows free x) (omega arith) (rw on at more))
-        | no q ↦ test-next k (suc x) (pick (eqb x due) (follows free x) due) (omega arith) more m (omega arith) b s
+        | no q ↦ test_next k (suc x) (pick (eqb x due) (follows free x) due) (omega arith) more m (omega arith) b s
       ]
 
 -- after a submask m, `follows free m` is the next one; 0 is the first
 pub next_submask : (free m : ℕ) → free < 256 → m < 256 → submask free m ≡ true → First free (suc m) (follows free m)
-next_submask free m f b s = test-next free 256 0 0 refl (all_at 256 (λ x. checks 256 x 0 0) every free f) m (omega arith) b s
+next_submask free m f b s = test_next free 256 0 0 refl (all_at 256 (λ x. checks 256 x 0 0) every free f) m (omega arith) b s
 
 pub no_bits : (free : ℕ) → free < 256 → submask free 0 ≡ true
 no_bits free f = (test_first free 256 0 0 refl (all_at 256 (λ x. checks 256 x 0 0) every free f)).is (omega arith)

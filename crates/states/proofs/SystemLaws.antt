@@ -19,7 +19,7 @@ use Rattle.tasks.specs.declared.play.ReplayAnswer.TheVariants as ReplayAnswer
 use Rattle.tasks.specs.declared.play.Replayed.{Replayed}
 use Rattle.lists.proofs.Bools.{by_bool}
 use Rattle.tasks.proofs.Proper.{start_proper}
-use Rattle.tasks.proofs.Answered.{ticked_refused, ticked-missed, ticked-next, refusal_none, refusal_passed, ticked-illegal, ticked_proper}
+use Rattle.tasks.proofs.Answered.{ticked_refused, ticked_missed, ticked_next, refusal_none, refusal_passed, ticked_illegal, ticked_proper}
 use Rattle.tasks.proofs.Played.{replayed_played}
 use Rattle.levels.specs.Verdict.{Replay, Reached, replay_from, replay}
 use Rattle.levels.specs.Verdict as levels
@@ -74,16 +74,16 @@ module _ (t : Table) (valid : table_fault t ≡ 0) where
 
       -- LAW: a legal mask's step is Missed or Next with the state after the tick
       pub step_missed : missed t (after t s m) ≡ true → step t s m ≡ Missed (after t s m)
-      step_missed e = step_tick_lem t s m small ∙ ap (λ r. tick_of r.answer r.state) (sym (ticked-missed t s m none e))
+      step_missed e = step_tick_lem t s m small ∙ ap (λ r. tick_of r.answer r.state) (sym (ticked_missed t s m none e))
 
       pub step_next : missed t (after t s m) ≡ false → step t s m ≡ Next (after t s m)
-      step_next e = step_tick_lem t s m small ∙ ap (λ r. tick_of r.answer r.state) (sym (ticked-next t s m none e))
+      step_next e = step_tick_lem t s m small ∙ ap (λ r. tick_of r.answer r.state) (sym (ticked_next t s m none e))
 
     -- LAW: any other mask is refused
     pub step_illegal : illegal t s m ≡ true → step t s m ≡ Refused
     step_illegal e =
         elim (dec_lt m 256) [
-          | yes b ↦ step_tick_lem t s m b ∙ ap (λ r. tick_of r.answer r.state) (ticked-illegal t s m valid proper e)
+          | yes b ↦ step_tick_lem t s m b ∙ ap (λ r. tick_of r.answer r.state) (ticked_illegal t s m valid proper e)
           | no b ↦ step_large t s m (omega arith)
         ]
 
@@ -126,35 +126,35 @@ missed_answer (ReplayAnswer.Played Outcome.Kept) s e = absurd (let z : ◌≡◌
 missed_answer (ReplayAnswer.Played (Outcome.Missed k)) s {L} e = let z : k ≡ L = cc in rw z
 missed_answer (ReplayAnswer.Refused r k) s e = absurd (let z : ◌≡◌ {A = ℕ} 0 1 = cc in omega arith)
 
-step-replay :
+step_replay :
     (k : ℕ) (a : TickAnswer) (s s' : State) (rest : Replayed) (go : State → Replay State) → go s' ≡ replay_of rest.answer rest.state
     → levels.go_on k (tick_of a s') go ≡ replay_of (tasks.play_next (k + 1) s s' rest a).answer (tasks.play_next (k + 1) s s' rest a).state
-step-replay k Answer.Next s s' rest go e = e
-step-replay k Answer.Missed s s' rest go e = rw add-one
-step-replay k (Answer.Refused r) s s' rest go e = rw add-one
+step_replay k Answer.Next s s' rest go e = e
+step_replay k Answer.Missed s s' rest go e = rw add-one
+step_replay k (Answer.Refused r) s s' rest go e = rw add-one
 
 module _ (t : Table) where
-  played-replay :
+  played_replay :
       (l : List ℕ) → ((i : ℕ) → get_or l i 0 < 256) → (k : ℕ) (s : State)
       → replay_from (system t) k s l ≡ replay_of (tasks.played t s k l).answer (tasks.played t s k l).state
   unfolding tasks.played
-  played-replay [] f k s = refl
-  played-replay (m ∷ ms) f k s =
+  played_replay [] f k s = refl
+  played_replay (m ∷ ms) f k s =
       let r = ticked t s m in
       ap (λ o. levels.go_on k o (λ u. replay_from (system t) (suc k) u ms)) (step_tick_lem t s m (f 0))
-      ∙ step-replay k r.answer s r.state (tasks.played t r.state (k + 1) ms) (λ u. replay_from (system t) (suc k) u ms)
-      (ap (λ n. replay_from (system t) n r.state ms) (sym (add-one k)) ∙ played-replay ms (λ i. f (suc i)) (k + 1) r.state)
+      ∙ step_replay k r.answer s r.state (tasks.played t r.state (k + 1) ms) (λ u. replay_from (system t) (suc k) u ms)
+      (ap (λ n. replay_from (system t) n r.state ms) (sym (add-one k)) ∙ played_replay ms (λ i. f (suc i)) (k + 1) r.state)
 
   -- LAW: for a valid table and a list of bytes, the system's replay is the replay of `tasks`
-  pub replay-same :
+  pub replay_same :
       table_fault t ≡ 0 → (l : List ℕ) → ((i : ℕ) → get_or l i 0 < 256)
       → replay (system t) l ≡ replay_of (tasks.replayed t l).answer (tasks.replayed t l).state
-  replay-same valid l f =
-      played-replay l f 0 start ∙ ap (λ r. replay_of r.answer r.state) (replayed_played t l (omega arith))
+  replay_same valid l f =
+      played_replay l f 0 start ∙ ap (λ r. replay_of r.answer r.state) (replayed_played t l (omega arith))
 
   -- LAW: where the system's replay is Missed at a tick, so is the replay of `tasks`
   pub replay_missed :
       table_fault t ≡ 0 → (l : List ℕ) → ((i : ℕ) → get_or l i 0 < 256) → {L : ℕ} {u : State} → replay (system t) l ≡ MissedAt L u
       → (tasks.replayed t l).answer ≡ ReplayAnswer.Played (Outcome.Missed L)
   replay_missed valid l f e =
-      missed_answer (tasks.replayed t l).answer (tasks.replayed t l).state (sym (replay-same valid l f) ∙ e)
+      missed_answer (tasks.replayed t l).answer (tasks.replayed t l).state (sym (replay_same valid l f) ∙ e)

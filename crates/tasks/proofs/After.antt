@@ -40,19 +40,19 @@ module _ (t : Table) (s : State) (mask i : ℕ) (h : i < 8) where
 
   -- ---- after the run
 
-  work-after :
+  work_after :
       get_or (after t s mask).c i 0
       ≡ pick (runs t (released t s mask) i) (get_or (released t s mask).c i 0 - 1) (get_or (released t s mask).c i 0)
   unfolding after ran ran_at chosen
-  work-after =
+  work_after =
       eight_at 0 (ran_at (released t s mask).c (chosen t (released t s mask))) i h
       ∙ ap (λ b. pick b (get_or (released t s mask).c i 0 - 1) (get_or (released t s mask).c i 0)) (eight_at false (runs t (released t s mask)) i h)
 
   pub work_ran : runs t (released t s mask) i ≡ true → get_or (after t s mask).c i 0 ≡ get_or (released t s mask).c i 0 - 1
-  work_ran e = work-after ∙ rw e
+  work_ran e = work_after ∙ rw e
 
   pub work_waited : runs t (released t s mask) i ≡ false → get_or (after t s mask).c i 0 ≡ get_or (released t s mask).c i 0
-  work_waited e = work-after ∙ rw e
+  work_waited e = work_after ∙ rw e
 
   pub work_falls : get_or (after t s mask).c i 0 ≤ get_or (released t s mask).c i 0
   work_falls =

@@ -17,7 +17,7 @@ use Rattle.tasks.specs.declared.sheet.Reading.TheVariants as Reading
 use Rattle.tasks.specs.declared.writer.Writing.TheVariants.{Written, Refused}
 use Rattle.lists.proofs.Bools.{by_bool}
 use Rattle.tasks.proofs.Answers.{writing_is}
-use Rattle.tasks.proofs.Sheets.{write_fault, write_short, write_done, write-out, sheet_short}
+use Rattle.tasks.proofs.Sheets.{write_fault, write_short, write_done, write_out_lem, sheet_short}
 use Rattle.tasks.proofs.RoundTrip.{Eight, read_write, read_valid, write_read}
 
 module _ (s out : List ℕ) where
@@ -27,11 +27,11 @@ module _ (s out : List ℕ) where
   copy_refused r e = (rw e, rw e)
 
   -- an accepted sheet's table is written as the sheet
-  pub copy-accepted :
+  pub copy_accepted :
       ((i : ℕ) → get_or s i 0 < 256) → (sheet_of s).answer ≡ Reading.Accepted
       → (write_answer (sheet_of s).table out ≡ copy_answer s out) × (write_out (sheet_of s).table out ≡ copy_out s out)
   unfolding writing_answer copy_answer copy_out
-  copy-accepted byte e =
+  copy_accepted byte e =
       let t = (sheet_of s).table in
       let read : sheet_of s ≡ accepted_as t = ap (λ a. record { answer = a; table = t }) e in
       let same : sheet_bytes t ≡ s = read_write s byte t read in
@@ -44,7 +44,7 @@ module _ (s out : List ℕ) where
       (λ h.
       let room : length (sheet_bytes t) ≤ length out = omega (arith, ap length same, ltb-false (length out) (length s) h) in
       let w = write_done t out fine room in
-      (sym w.0 ∙ ap (λ l. writing_answer (Written (length l))) same ∙ rw (e, h), write-out t out fine room ∙ ap (λ l. l ++ drop (length l) out) same ∙ rw (e, h)))
+      (sym w.0 ∙ ap (λ l. writing_answer (Written (length l))) same ∙ rw (e, h), write_out_lem t out fine room ∙ ap (λ l. l ++ drop (length l) out) same ∙ rw (e, h)))
 
 no_length : {X : Type 0} {r n : ℕ} → Refused r ≡ Written n → X
 no_length e = absurd (let z : ◌≡◌ {A = ℕ} 0 1 = cc in omega arith)
@@ -75,4 +75,4 @@ module _ (t : Table) (out : List ℕ) (room : 52 ≤ length out) where
       (λ f.
       let same : Written n ≡ Written (length (sheet_bytes t)) = writing_is (q ∙ sym (write_done t out f (valid_room f)).0) in
       let n-is : n ≡ length (sheet_bytes t) = cc in
-      (omega (arith, sheet_short t f), rw (write-out t out f (valid_room f), take_at (sheet_bytes t) (drop (length (sheet_bytes t)) out) n (sym n-is), f) (write_read t e f)))
+      (omega (arith, sheet_short t f), rw (write_out_lem t out f (valid_room f), take_at (sheet_bytes t) (drop (length (sheet_bytes t)) out) n (sym n-is), f) (write_read t e f)))

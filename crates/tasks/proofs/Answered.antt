@@ -32,15 +32,15 @@ module _ (t : Table) (s : State) (mask : ℕ) where
   unfolding ticked
   ticked_refused h = pick_yes _ (lt-ltb _ _ h)
 
-  pub ticked-missed :
+  pub ticked_missed :
       refusal t s mask ≤ 0 → missed t (after t s mask) ≡ true → answered Missed (after t s mask) ≡ ticked t s mask
   unfolding ticked
-  ticked-missed h e = pick_no _ (le-ltb _ _ h) (pick_yes _ e)
+  ticked_missed h e = pick_no _ (le-ltb _ _ h) (pick_yes _ e)
 
-  pub ticked-next :
+  pub ticked_next :
       refusal t s mask ≤ 0 → missed t (after t s mask) ≡ false → answered Next (after t s mask) ≡ ticked t s mask
   unfolding ticked
-  ticked-next h e = pick_no _ (le-ltb _ _ h) (pick_no _ e refl)
+  ticked_next h e = pick_no _ (le-ltb _ _ h) (pick_no _ e refl)
 
   -- a tick is not refused exactly with a valid table, a proper state and a legal mask
   pub refusal_none : table_fault t ≡ 0 → improper t s ≡ false → illegal t s mask ≡ false → refusal t s mask ≡ 0
@@ -65,14 +65,14 @@ module _ (t : Table) (s : State) (mask : ℕ) where
       (omega (arith, ltb-false 0 (table_fault t) e), a.0, b.0))
 
   -- LAW: with a valid table, a proper state and a legal mask, a tick is the state after step 4, missed or not
-  pub ticked-legal :
+  pub ticked_legal :
       table_fault t ≡ 0 → improper t s ≡ false → illegal t s mask ≡ false
       → ticked t s mask ≡ answered (pick (missed t (after t s mask)) Missed Next) (after t s mask)
-  ticked-legal valid proper legal =
+  ticked_legal valid proper legal =
       let none : refusal t s mask ≤ 0 = omega (arith, refusal_none valid proper legal) in
       by_bool (missed t (after t s mask))
-      (λ e. rw e (sym (ticked-missed none e)))
-      (λ e. rw e (sym (ticked-next none e)))
+      (λ e. rw e (sym (ticked_missed none e)))
+      (λ e. rw e (sym (ticked_next none e)))
 
   module _ {r next : State} {run : List Bool} (r-is : r ≡ released t s mask) (run_is : run ≡ chosen t r) (next-is : next ≡ ran r run) where
     steps_after : next ≡ after t s mask
@@ -80,18 +80,18 @@ module _ (t : Table) (s : State) (mask : ℕ) where
     steps_after = cc
 
     -- LAW: .. and so, by its steps
-    pub ticked-steps :
+    pub ticked_steps :
         table_fault t ≡ 0 → improper t s ≡ false → illegal t s mask ≡ false → ticked t s mask ≡ answered (pick (missed t next) Missed Next) next
-    ticked-steps valid proper legal = rw steps_after (ticked-legal valid proper legal)
+    ticked_steps valid proper legal = rw steps_after (ticked_legal valid proper legal)
 
   refused_mask : table_fault t ≡ 0 → improper t s ≡ false → illegal t s mask ≡ true → refusal t s mask ≡ 11
   unfolding refusal
   refused_mask valid proper bad = rw (valid, proper, bad)
 
   -- LAW: with a valid table and a proper state, a mask that is not legal is refused with 11 and the state given
-  pub ticked-illegal :
+  pub ticked_illegal :
       table_fault t ≡ 0 → improper t s ≡ false → illegal t s mask ≡ true → ticked t s mask ≡ answered (Refused 11) s
-  ticked-illegal valid proper bad =
+  ticked_illegal valid proper bad =
       let eleven : refusal t s mask ≡ 11 = refused_mask valid proper bad in
       sym (ticked_refused (omega arith)) ∙ ap (λ r. answered (Refused r) s) eleven
 
@@ -106,8 +106,8 @@ module _ (t : Table) (s : State) (mask : ℕ) where
       let none = ltb-false 0 (refusal t s mask) h in
       let ok = refusal_passed none in
       by_bool (missed t (after t s mask))
-      (λ m. absurd (let z : ◌≡◌ {A = ℕ} 0 1 = cc (ap (λ x. x.answer) (ticked-missed none m)) in omega arith))
-      (λ m. record { valid = ok.0; proper = ok.1; legal = ok.2; calm = m; state = ap (λ x. x.state) (sym (ticked-next none m)) }))
+      (λ m. absurd (let z : ◌≡◌ {A = ℕ} 0 1 = cc (ap (λ x. x.answer) (ticked_missed none m)) in omega arith))
+      (λ m. record { valid = ok.0; proper = ok.1; legal = ok.2; calm = m; state = ap (λ x. x.state) (sym (ticked_next none m)) }))
 
   -- LAW: a tick that neither refuses nor misses leaves a proper state
   pub ticked_proper : (ticked t s mask).answer ≡ Next → improper t (ticked t s mask).state ≡ false

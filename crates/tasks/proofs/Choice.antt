@@ -13,7 +13,7 @@ use Rattle.tasks.specs.Tick.{key, age, before, ahead, runs}
 use Rattle.tasks.specs.declared.state.State.{State}
 use Rattle.tasks.specs.declared.table.Table.{Table}
 use Rattle.lists.proofs.Bools.{by_bool, clash, and_left, and_right, both, or_left, or_right, or_cases, not_yes, not_no}
-use Rattle.lists.proofs.Counts.{count_mono, count-but-one}
+use Rattle.lists.proofs.Counts.{count_mono, count_but_one}
 use Rattle.tasks.proofs.Order.{Order, by_number, upward, downward, by_rank, Last, last}
 
 module _ (t : Table) (s : State) where
@@ -59,5 +59,5 @@ module _ (t : Table) (s : State) where
   runs_fit few =
       ⊎_elim
       (λ none. omega (arith, count_mono (runs t s) (keeps t s) 8 (λ k h e. by_bool (keeps t s k) (λ y. y) (λ y. clash (is_fresh k e y) (none k h)))))
-      (λ l. omega (arith, count-but-one (runs t s) (ahead t s l.0) l.0 8 (runs_ahead l.0 l.1), fresh_few l.0 l.1.holds))
+      (λ l. omega (arith, count_but_one (runs t s) (ahead t s l.0) l.0 8 (runs_ahead l.0 l.1), fresh_few l.0 l.1.holds))
       (last (before t s) in_order fresh 8)

@@ -68,10 +68,10 @@ then_same : (x : Number) (f g : ℕ → ℕ → Sheet) → ((v next : ℕ) → x
 then_same (Value v next) f g h = h v next refl
 then_same (Refused r) f g h = refl
 
-task-then-same :
+task_then_same :
     (x : Number) (f g : ℕ → ℕ → TaskRead) → ((v next : ℕ) → x ≡ Value v next → f v next ≡ g v next) → task_then x f ≡ task_then x g
-task-then-same (Value v next) f g h = h v next refl
-task-then-same (Refused r) f g h = refl
+task_then_same (Value v next) f g h = h v next refl
+task_then_same (Refused r) f g h = refl
 
 after_same :
     (x : TaskRead) (f g : Task → ℕ → Sheet) → ((task : Task) (next : ℕ) → x ≡ TaskRead.Read task next → f task next ≡ g task next)
@@ -107,10 +107,10 @@ module _ (n : ℕ) (s : List ℕ) where
   field_same at low high r h = rw (number_front at h)
 
   -- a field, and what follows it
-  field-front :
+  field_front :
       (at low high r : ℕ) (f g : ℕ → ℕ → Sheet) → at + 2 ≤ n → ((v next : ℕ) → v ≤ high → next ≤ at + 2 → f v next ≡ g v next)
       → and_then (field_at (take n s) at low high r) f ≡ and_then (field_at s at low high r) g
-  field-front at low high r f g h same =
+  field_front at low high r f g h same =
       ap (λ x. and_then x f) (field_same at low high r h)
       ∙ then_same (field_at s at low high r) f g
       (λ v next e. let w = field_read s at low high r e in same v next w.upto (number_near s at v next w.number))
@@ -119,11 +119,11 @@ module _ (n : ℕ) (s : List ℕ) where
   unfolding task_at
   task_front at h =
       rw (number_front at (omega arith))
-      (task-then-same (number_at s at) _ _
+      (task_then_same (number_at s at) _ _
       (λ work a e.
       let x = number_near s at work a e in
       rw (number_front a (omega arith))
-      (task-then-same (number_at s a) _ _
+      (task_then_same (number_at s a) _ _
       (λ deadline b f.
       let y = number_near s a deadline b f in
       rw (number_front b (omega arith))))))
@@ -140,17 +140,17 @@ module _ (n : ℕ) (s : List ℕ) where
   policy_front : (at : ℕ) → at + 54 < n → from_policy (take n s) at ≡ from_policy s at
   unfolding from_policy from_tasks
   policy_front at h =
-      field-front at 0 last_policy 4 _ _ (omega arith)
+      field_front at 0 last_policy 4 _ _ (omega arith)
       (λ policy a x y.
-      field-front a 1 8 5 _ _ (omega arith)
+      field_front a 1 8 5 _ _ (omega arith)
       (λ m b z w.
-      field-front b 1 8 6 _ _ (omega arith)
+      field_front b 1 8 6 _ _ (omega arith)
       (λ count c u v. tasks_front count 0 (empty_table policy m count) c (omega arith))))
 
   -- LAW: what a sheet answers stands in its first 57 bytes
   pub front : 56 < n → sheet_of (take n s) ≡ sheet_of s
   unfolding sheet_of
-  front h = field-front 0 3 3 3 _ _ (omega arith) (λ fields a x y. policy_front a (omega arith))
+  front h = field_front 0 3 3 3 _ _ (omega arith) (λ fields a x y. policy_front a (omega arith))
 
 -- LAW: bytes after the 64th never change what a sheet answers
 pub sheet_front : (s : List ℕ) → sheet_of (take 64 s) ≡ sheet_of s

@@ -150,18 +150,18 @@ part_here (x ∷ s) (suc at) b l e =
     (omega (arith, h.0), h.1, rw add-one (rw add-one at h.2))
 
 -- what stands at a place is read, where its groups are canonical and few enough
-pub read-bytes :
+pub read_bytes :
     {least : ℕ} {gs : List ℕ} → Canonical least gs → least ≤ 1 → (most : ℕ) → length gs ≤ most → (s : List ℕ) (at : ℕ) (rest : List ℕ) → drop at s ≡ bytes_of gs ++ rest
     → number_in most least s at ≡ Value (value gs) (at + length gs)
 unfolding number_in value bytes_of
-read-bytes c d zero h s at rest e = absurd (omega (arith, some_group c))
-read-bytes (alone {least = least} {g = g} l b) d (suc most) h s at rest e =
+read_bytes c d zero h s at rest e = absurd (omega (arith, some_group c))
+read_bytes (alone {least = least} {g = g} l b) d (suc most) h s at rest e =
     let p = part_here s at g rest e in
     rw (lt-ltb at (length s) p.0, p.1, le-ltb g least l, lt-ltb g 128 b) (ap (λ v. Value v (at + 1)) (omega arith))
-read-bytes (before {least = least} {g = g} {gs = gs} b c) d (suc most) h s at rest e =
+read_bytes (before {least = least} {g = g} {gs = gs} b c) d (suc most) h s at rest e =
     let p = part_here s at (g + 128) (bytes_of gs ++ rest) (e ∙ ap (λ l. l ++ rest) (bytes_before g c)) in
     rw
-    (lt-ltb at (length s) p.0, p.1, le-ltb (g + 128) least (omega arith), le-ltb (g + 128) 128 (omega arith), read-bytes c (omega arith) most (omega arith) s (at + 1) rest p.2)
+    (lt-ltb at (length s) p.0, p.1, le-ltb (g + 128) least (omega arith), le-ltb (g + 128) 128 (omega arith), read_bytes c (omega arith) most (omega arith) s (at + 1) rest p.2)
     (ap₂ Value (omega arith) (omega arith))
 
 -- the groups that a number was read from
@@ -241,7 +241,7 @@ pub number_read :
     → number_at s at ≡ Value x (at + length (number_bytes x))
 unfolding number_at number_bytes groups
 number_read x h s at rest e =
-    read-bytes (groups_canonical x) (omega arith) 2 (few_in x x 1 (omega arith) h) s at rest e
+    read_bytes (groups_canonical x) (omega arith) 2 (few_in x x 1 (omega arith) h) s at rest e
     ∙ ap₂ Value (value_groups x) (ap (λ n. at + n) (sym (number_length x)))
 
 -- what is read at a place are the bytes of the number
@@ -250,10 +250,10 @@ pub record Stands (s : List ℕ) (at v next : ℕ) : Type 0 where
   pub ends : next ≡ at + length (number_bytes v)
   pub inside : next ≤ length s
 
-pub number-stands :
+pub number_stands :
     (s : List ℕ) → ((i : ℕ) → get_or s i 0 < 256) → (at v next : ℕ) → number_at s at ≡ Value v next → Stands s at v next
 unfolding number_at number_bytes
-number-stands s byte at v next e =
+number_stands s byte at v next e =
     let f = read_from s byte 2 0 at v next e in
     let same : groups v ≡ f.gs = ap groups (sym f.is) ∙ groups_value f.canonical in
     record {

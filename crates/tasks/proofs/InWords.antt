@@ -79,8 +79,8 @@ module _ (v : List ℕ) (i : ℕ) (h : i < 8) where
   unfolding state_of
   gap_word = eight_at 0 (λ k. get_or v k 0 / 256) i h
 
-  pub late-word :
+  pub late_word :
       (t : Table)
       → late_job (get_or t.deadline i 0) (get_or t.gap i 0) (get_or v i 0 / 256) (get_or v i 0 % 256) ≡ late t (state_of v) i
   unfolding late
-  late-word t = rw (work_word, gap_word)
+  late_word t = rw (work_word, gap_word)

@@ -25,25 +25,25 @@ abbrev pub kept : State → Replayed
 kept s = record { answer = Played Kept; state = s }
 
 -- where a tick goes on to a kept list it answered with the next state, and what follows from the rest follows
-pub next-kept :
+pub next_kept :
     {X : Type 0} (k : ℕ) (s s₁ s' : State) (rest : Replayed) (a : TickAnswer) → play_next k s s₁ rest a ≡ kept s'
     → (a ≡ Tick.Next → rest ≡ kept s' → X) → X
-next-kept k s s₁ s' rest Tick.Next e f = f refl e
-next-kept k s s₁ s' rest Tick.Missed e f = absurd (let z : ◌≡◌ {A = ℕ} 0 1 = cc (ap (λ r. r.answer) e) in omega arith)
-next-kept k s s₁ s' rest (Tick.Refused n) e f = absurd (let z : ◌≡◌ {A = ℕ} 0 1 = cc (ap (λ r. r.answer) e) in omega arith)
+next_kept k s s₁ s' rest Tick.Next e f = f refl e
+next_kept k s s₁ s' rest Tick.Missed e f = absurd (let z : ◌≡◌ {A = ℕ} 0 1 = cc (ap (λ r. r.answer) e) in omega arith)
+next_kept k s s₁ s' rest (Tick.Refused n) e f = absurd (let z : ◌≡◌ {A = ℕ} 0 1 = cc (ap (λ r. r.answer) e) in omega arith)
 
 module _ (t : Table) where
   -- LAW: where a list is kept, a list after it is played from its state, with tick numbers raised by its length
-  pub played-joined :
+  pub played_joined :
       (s : State) (k : ℕ) (l l' : List ℕ) (s' : State) → played t s k l ≡ kept s' → played t s k (l ++ l') ≡ played t s' (k + length l) l'
   unfolding played
-  played-joined s k [] l' s' e = ap (λ r. played t r.state k l') e ∙ ap (λ n. played t s' n l') (omega arith)
-  played-joined s k (mask ∷ masks) l' s' e =
+  played_joined s k [] l' s' e = ap (λ r. played t r.state k l') e ∙ ap (λ n. played t s' n l') (omega arith)
+  played_joined s k (mask ∷ masks) l' s' e =
       let s₁ = (ticked t s mask).state in
-      next-kept (k + 1) s s₁ s' (played t s₁ (k + 1) masks) (ticked t s mask).answer e
+      next_kept (k + 1) s s₁ s' (played t s₁ (k + 1) masks) (ticked t s mask).answer e
       (λ next rest.
       ap (play_next (k + 1) s s₁ (played t s₁ (k + 1) (masks ++ l'))) next
-      ∙ played-joined s₁ (k + 1) masks l' s' rest
+      ∙ played_joined s₁ (k + 1) masks l' s' rest
       ∙ ap (λ n. played t s' n l') (omega arith))
 
   -- LAW: a list that is kept from a proper state ends in one
@@ -52,7 +52,7 @@ module _ (t : Table) where
   played_proper s k [] s' proper e = ap (λ r. improper t r.state) (sym e) ∙ proper
   played_proper s k (mask ∷ masks) s' proper e =
       let s₁ = (ticked t s mask).state in
-      next-kept (k + 1) s s₁ s' (played t s₁ (k + 1) masks) (ticked t s mask).answer e
+      next_kept (k + 1) s s₁ s' (played t s₁ (k + 1) masks) (ticked t s mask).answer e
       (λ next rest. played_proper s₁ (k + 1) masks s' (ticked_proper t s mask next) rest)
 
   played_one : (s : State) (k mask : ℕ) → (ticked t s mask).answer ≡ Tick.Next → played t s k (mask ∷ []) ≡ kept (ticked t s mask).state
@@ -72,4 +72,4 @@ module _ (t : Table) where
         (l : List ℕ) (s : State) (mask : ℕ) → replayed t l ≡ kept s → (ticked t s mask).answer ≡ Tick.Next
         → replayed t (l ++ (mask ∷ [])) ≡ kept (ticked t s mask).state
     kept_more l s mask e next =
-        sym (is_played (l ++ (mask ∷ []))) ∙ played-joined start 0 l (mask ∷ []) s (is_played l ∙ e) ∙ played_one s (0 + length l) mask next
+        sym (is_played (l ++ (mask ∷ []))) ∙ played_joined start 0 l (mask ∷ []) s (is_played l ∙ e) ∙ played_one s (0 + length l) mask next

@@ -54,16 +54,16 @@ module _ (t : Table) (s : State) (i : ℕ) where
 
 module _ (t : Table) (s : State) (mask : ℕ) (i : ℕ) (h : i < 8) where
   -- LAW: the slack of a job that runs stays
-  pub slack-ran :
+  pub slack_ran :
       runs t (released t s mask) i ≡ true → 0 < get_or (released t s mask).p i 0 → slack_at t (after t s mask) i ≡ slack_at t (released t s mask) i
-  slack-ran r gap =
+  slack_ran r gap =
       slack_same (get_or t.deadline i 0) (get_or t.gap i 0) (get_or (after t s mask).p i 0) (get_or (after t s mask).c i 0) (get_or (released t s mask).p i 0) (get_or (released t s mask).c i 0)
       (omega (arith, work_ran t s mask i h r, gap_after t s mask i h, runs_work t (released t s mask) i r))
 
   -- LAW: the slack of a job that waits falls by 1
-  pub slack-waited :
+  pub slack_waited :
       runs t (released t s mask) i ≡ false → 0 < get_or (released t s mask).p i 0 → slack_at t (after t s mask) i ≡ slack_at t (released t s mask) i -ℤ pos 1
-  slack-waited r gap =
+  slack_waited r gap =
       let c = get_or (released t s mask).c i 0 in
       let p = get_or (released t s mask).p i 0 in
       slack_same (get_or t.deadline i 0) (get_or t.gap i 0) (get_or (after t s mask).p i 0) (get_or (after t s mask).c i 0) p (c + 1)
@@ -74,9 +74,9 @@ module _ (t : Table) (s : State) (mask : ℕ) (i : ℕ) (h : i < 8) where
 
 module _ (t : Table) (s : State) (mask : ℕ) (valid : table_fault t ≡ 0) (proper : improper t s ≡ false) (i : ℕ) (h : i < 8) where
   -- a job that is ready after the release has slack 0 or more then
-  pub released-slack :
+  pub released_slack :
       0 < get_or (released t s mask).c i 0 → get_or t.gap i 0 + get_or (released t s mask).c i 0 ≤ get_or t.deadline i 0 + get_or (released t s mask).p i 0
-  released-slack r =
+  released_slack r =
       let o = ordered t valid i h in
       by_bool (bit mask i)
       (λ e. omega (arith, work_on t s mask i h e, gap_on t s mask i h e, o.work))
@@ -86,26 +86,26 @@ module _ (t : Table) (s : State) (mask : ℕ) (valid : table_fault t ≡ 0) (pro
       omega (arith, not_late t s i (proper_task t s proper i h).kept (omega arith)))
 
   -- a job that is late after the tick did not run, and had slack 0
-  pub late-waited :
+  pub late_waited :
       late t (after t s mask) i ≡ true
       → (runs t (released t s mask) i ≡ false) × (0 < get_or (released t s mask).c i 0)
       × (get_or t.gap i 0 + get_or (released t s mask).c i 0 ≡ get_or t.deadline i 0 + get_or (released t s mask).p i 0)
       × (0 < get_or (released t s mask).p i 0)
-  late-waited e =
+  late_waited e =
       let o = ordered t valid i h in
       let l = late_yes t (after t s mask) i e in
       let p = gap_after t s mask i h in
       by_bool (runs t (released t s mask) i)
-      (λ r. let c = work_ran t s mask i h r in absurd (omega (arith, released-slack (omega arith), o.deadline)))
+      (λ r. let c = work_ran t s mask i h r in absurd (omega (arith, released_slack (omega arith), o.deadline)))
       (λ r.
       let c = work_waited t s mask i h r in
-      let k = released-slack (omega arith) in
+      let k = released_slack (omega arith) in
       (r, omega arith, omega (arith, o.deadline), omega (arith, o.deadline)))
 
   -- LAW: a miss shows first as slack exactly -1
   pub first_late : late t (after t s mask) i ≡ true → slack_at t (after t s mask) i ≡ negsuc 0
   first_late e =
-      let w = late-waited e in
+      let w = late_waited e in
       let D = get_or t.deadline i 0 in
       let P = get_or t.gap i 0 in
       let c = get_or (after t s mask).c i 0 in

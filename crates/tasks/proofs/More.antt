@@ -19,7 +19,7 @@ use Rattle.tasks.proofs.Tables.{ordered}
 use Rattle.tasks.proofs.Legal.{legal_bit, bits_legal}
 use Rattle.tasks.proofs.After.{work_on, work_off, gap_on, gap_off, work_waited, gap_after}
 use Rattle.tasks.proofs.Proper.{proper_task}
-use Rattle.tasks.proofs.Late.{is_late, not_late, late-waited}
+use Rattle.tasks.proofs.Late.{is_late, not_late, late_waited}
 
 -- ---- two states that agree on a task
 
@@ -124,7 +124,7 @@ module _ (t : Table) (s : State) (valid : table_fault t ≡ 0) (proper : imprope
 
     late_too : (i : ℕ) → i < 8 → late t (after t s few) i ≡ true → late t (after t s more) i ≡ true
     late_too i h e =
-        let w = late-waited t s few valid proper i h e in
+        let w = late_waited t s few valid proper i h e in
         ⊎_elim
         (λ none. absurd (omega (arith, w.1, ltb-false 0 (get_or (released t s few).c i 0) none)))
         (λ same.

@@ -20,7 +20,7 @@ use Rattle.lists.proofs.Counts.{some_any, any_some}
 use Rattle.jobs.proofs.Signed.{slack_sub, lt_z_sub, sub_ge}
 use Rattle.tasks.proofs.Legal.{legal_bit}
 use Rattle.tasks.proofs.After.{work_on, work_off, gap_on, gap_off}
-use Rattle.tasks.proofs.Late.{late-waited}
+use Rattle.tasks.proofs.Late.{late_waited}
 use Rattle.tasks.proofs.InWords.{work_word, gap_word}
 
 -- a job is tight where D + p is at most P + c
@@ -33,20 +33,20 @@ tight_job_lem d g p c h k =
     ∙ lt-ltb (d + p + 0) (1 + (g + c)) (omega arith))
 
 -- the same of a task in words
-pub tight-word :
+pub tight_word :
     (t : Table) (v : List ℕ) (i : ℕ) → i < 8
     → (tight_job (get_or t.deadline i 0) (get_or t.gap i 0) (get_or v i 0 / 256) (get_or v i 0 % 256)
     || (eqb (get_or v i 0 / 256) 0 && tight_job (get_or t.deadline i 0) (get_or t.gap i 0) (get_or t.gap i 0) (get_or t.work i 0)))
     ≡ tight_at t (state_of v) i
 unfolding tight_at
-tight-word t v i h = rw (work_word v i h, gap_word v i h)
+tight_word t v i h = rw (work_word v i h, gap_word v i h)
 
 module _ (t : Table) (s : State) (valid : table_fault t ≡ 0) (proper : improper t s ≡ false) (mask : ℕ) (legal : illegal t s mask ≡ false) where
   -- a job that is late after the tick was tight before it
   late_tight : (i : ℕ) → i < 8 → late t (after t s mask) i ≡ true → tight_at t s i ≡ true
   unfolding tight_at
   late_tight i h e =
-      let w = late-waited t s mask valid proper i h e in
+      let w = late_waited t s mask valid proper i h e in
       let D = get_or t.deadline i 0 in
       let P = get_or t.gap i 0 in
       let C = get_or t.work i 0 in

@@ -27,63 +27,63 @@ use Rattle.lists.proofs.Bools.{by_bool}
 use Rattle.lists.proofs.Picks.{pick_yes, pick_no}
 use Rattle.tasks.proofs.Answers.{replay_told}
 use Rattle.tasks.proofs.Proper.{start_proper}
-use Rattle.tasks.proofs.Answered.{ticked-legal, ticked-steps, ticked-illegal, ticked_proper}
+use Rattle.tasks.proofs.Answered.{ticked_legal, ticked_steps, ticked_illegal, ticked_proper}
 
 pub drop_step : (l : List ℕ) (i : ℕ) → i < length l → drop i l ≡ get_or l i 0 ∷ drop (i + 1) l
 drop_step l i h = drop-cons l i 0 h ∙ ap (λ n. get_or l i 0 ∷ drop n l) (sym (add-one i))
 
 module _ (t : Table) where
   -- one tick of the play, from what the tick returned
-  pub played-step :
+  pub played_step :
       (s : State) {r : Ticked} {a : TickAnswer} (l : List ℕ) (i : ℕ) → i < length l → r ≡ ticked t s (get_or l i 0) → r.answer ≡ a
       → played t s i (drop i l) ≡ play_next (i + 1) s r.state (played t r.state (i + 1) (drop (i + 1) l)) a
   unfolding played
-  played-step s {r} {a} l i h e q =
+  played_step s {r} {a} l i h e q =
       rw (drop_step l i h, ← e) (ap (play_next (i + 1) s r.state (played t r.state (i + 1) (drop (i + 1) l))) q)
 
   -- .. and from the steps of the tick, where the table is valid and the state proper
   module _ (valid : table_fault t ≡ 0) (s : State) (proper : improper t s ≡ false) (l : List ℕ) (i : ℕ) (h : i < length l) where
-    pub played-refused :
+    pub played_refused :
         illegal t s (get_or l i 0) ≡ true → played t s i (drop i l) ≡ record { answer = Refused 11 (i + 1); state = s }
-    played-refused bad = played-step s l i h (sym (ticked-illegal t s (get_or l i 0) valid proper bad)) refl
+    played_refused bad = played_step s l i h (sym (ticked_illegal t s (get_or l i 0) valid proper bad)) refl
 
     module _ (legal : illegal t s (get_or l i 0) ≡ false) {r next : State} {run : List Bool}
         (r-is : r ≡ released t s (get_or l i 0)) (run_is : run ≡ chosen t r) (next-is : next ≡ ran r run)
       where
         now : ticked t s (get_or l i 0) ≡ answered (pick (missed t next) Tick.Missed Tick.Next) next
-        now = ticked-steps t s (get_or l i 0) r-is run_is next-is valid proper legal
+        now = ticked_steps t s (get_or l i 0) r-is run_is next-is valid proper legal
 
         pub played_missed : missed t next ≡ true → played t s i (drop i l) ≡ record { answer = Played (Missed (i + 1)); state = next }
         played_missed m =
             let e : ticked t s (get_or l i 0) ≡ answered Tick.Missed next = rw m at now in
-            played-step s l i h (sym e) refl
+            played_step s l i h (sym e) refl
 
-        pub played-next :
+        pub played_next :
             missed t next ≡ false → (improper t next ≡ false) × (played t s i (drop i l) ≡ played t next (i + 1) (drop (i + 1) l))
-        played-next m =
+        played_next m =
             let e : ticked t s (get_or l i 0) ≡ answered Tick.Next next = rw m at now in
-            (rw e at (ticked_proper t s (get_or l i 0) (ap (λ a. a.answer) e)), played-step s l i h (sym e) refl)
+            (rw e at (ticked_proper t s (get_or l i 0) (ap (λ a. a.answer) e)), played_step s l i h (sym e) refl)
 
   -- where no mask is left, the state is kept
-  pub played-end :
+  pub played_end :
       (s : State) (l : List ℕ) (i : ℕ) → length l ≤ i → played t s i (drop i l) ≡ record { answer = Played Kept; state = s }
   unfolding played
-  played-end s l i h = rw (drop_of_length-le l h)
+  played_end s l i h = rw (drop_of_length-le l h)
 
   -- a tick that is named is one of the list's
-  next-tick :
+  next_tick :
       (k n : ℕ) (s s' : State) (r : Replayed) (a : TickAnswer) → k ≤ n → replay_tick r.answer ≤ n → replay_tick (play_next k s s' r a).answer ≤ n
   unfolding replay_tick outcome_tick
-  next-tick k n s s' r Tick.Next h e = e
-  next-tick k n s s' r Tick.Missed h e = h
-  next-tick k n s s' r (Tick.Refused number) h e = h
+  next_tick k n s s' r Tick.Next h e = e
+  next_tick k n s s' r Tick.Missed h e = h
+  next_tick k n s s' r (Tick.Refused number) h e = h
 
   played_tick : (s : State) (k : ℕ) (l : List ℕ) → replay_tick (played t s k l).answer ≤ k + length l
   unfolding played replay_tick outcome_tick
   played_tick s k [] = omega arith
   played_tick s k (mask ∷ masks) =
       let s' = (ticked t s mask).state in
-      next-tick (k + 1) (k + length (mask ∷ masks)) s s' (played t s' (k + 1) masks) (ticked t s mask).answer (omega arith)
+      next_tick (k + 1) (k + length (mask ∷ masks)) s s' (played t s' (k + 1) masks) (ticked t s mask).answer (omega arith)
       (omega (arith, played_tick s' (k + 1) masks))
 
   -- ---- a list played on from any state, by what is judged first
@@ -92,10 +92,10 @@ module _ (t : Table) where
   unfolding played_from
   from_fault s k l h = pick_yes _ (lt-ltb _ _ h)
 
-  pub from-improper :
+  pub from_improper :
       (s : State) (k : ℕ) (l : List ℕ) → table_fault t ≡ 0 → improper t s ≡ true → record { answer = Refused 13 0; state = s } ≡ played_from t s k l
   unfolding played_from
-  from-improper s k l valid bad = rw (valid, bad)
+  from_improper s k l valid bad = rw (valid, bad)
 
   pub from_played : (s : State) (k : ℕ) (l : List ℕ) → table_fault t ≡ 0 → improper t s ≡ false → played t s k l ≡ played_from t s k l
   unfolding played_from
@@ -109,10 +109,10 @@ module _ (t : Table) where
       (λ e. rw e (omega arith))
       (λ e. rw e (by_bool (improper t s) (λ b. rw b (omega arith)) (λ b. rw b (played_tick s k l))))
 
-  pub from-names :
+  pub from_names :
       (s : State) (l : List ℕ) {r : Replayed} → r ≡ played_from t s 0 l
       → (replay_answer r ≡ replay_answer (played_from t s 0 l)) × (r.state ≡ (played_from t s 0 l).state) × (replay_tick r.answer ≤ length l)
-  from-names s l e = ((replay_told e).0, (replay_told e).1, rw e (omega (arith, from_tick s 0 l)))
+  from_names s l e = ((replay_told e).0, (replay_told e).1, rw e (omega (arith, from_tick s 0 l)))
 
   -- ---- the replay
 
@@ -125,10 +125,10 @@ module _ (t : Table) where
   pub replayed_tick : (l : List ℕ) → replay_tick (replayed t l).answer ≤ length l
   replayed_tick l = rw (sym (replayed_from l)) (omega (arith, from_tick start 0 l))
 
-  pub replay-names :
+  pub replay_names :
       (l : List ℕ) {r : Replayed} → r ≡ replayed t l
       → (replay_answer r ≡ replay_answer (replayed t l)) × (r.state ≡ (replayed t l).state) × (replay_tick r.answer ≤ length l)
-  replay-names l e = ((replay_told e).0, (replay_told e).1, rw e (replayed_tick l))
+  replay_names l e = ((replay_told e).0, (replay_told e).1, rw e (replayed_tick l))
 
   -- a bad table is refused with the start state, and with a valid one the list is played
   pub replayed_refused : (l : List ℕ) → 0 < table_fault t → record { answer = Refused (table_fault t) 0; state = start } ≡ replayed t l
@@ -144,26 +144,26 @@ module _ (t : Table) where
     pub tick_eleven : (s : State) (mask r : ℕ) → improper t s ≡ false → (ticked t s mask).answer ≡ Tick.Refused r → r ≡ 11
     tick_eleven s mask r proper e =
         by_bool (illegal t s mask)
-        (λ h. cc (ap (λ x. x.answer) (ticked-illegal t s mask valid proper h)))
+        (λ h. cc (ap (λ x. x.answer) (ticked_illegal t s mask valid proper h)))
         (λ h.
-        let legal = ap (λ x. x.answer) (ticked-legal t s mask valid proper h) in
+        let legal = ap (λ x. x.answer) (ticked_legal t s mask valid proper h) in
         by_bool (missed t (after t s mask))
         (λ m. absurd (let q = rw m at legal in let z : ◌≡◌ {A = ℕ} 0 1 = cc in omega arith))
         (λ m. absurd (let q = rw m at legal in let z : ◌≡◌ {A = ℕ} 0 1 = cc in omega arith)))
 
-    next-eleven :
+    next_eleven :
         (k r n : ℕ) (s s' : State) (rest : Replayed) (a : TickAnswer) → ((q : ℕ) → a ≡ Tick.Refused q → q ≡ 11)
         → (a ≡ Tick.Next → rest.answer ≡ Refused r n → r ≡ 11) → (play_next k s s' rest a).answer ≡ Refused r n → r ≡ 11
-    next-eleven k r n s s' rest Tick.Next h g e = g refl e
-    next-eleven k r n s s' rest Tick.Missed h g e = absurd (let z : ◌≡◌ {A = ℕ} 0 1 = cc in omega arith)
-    next-eleven k r n s s' rest (Tick.Refused q) h g e = cc (h q refl)
+    next_eleven k r n s s' rest Tick.Next h g e = g refl e
+    next_eleven k r n s s' rest Tick.Missed h g e = absurd (let z : ◌≡◌ {A = ℕ} 0 1 = cc in omega arith)
+    next_eleven k r n s s' rest (Tick.Refused q) h g e = cc (h q refl)
 
     played_eleven : (s : State) (k : ℕ) (l : List ℕ) (r n : ℕ) → improper t s ≡ false → (played t s k l).answer ≡ Refused r n → r ≡ 11
     unfolding played
     played_eleven s k [] r n proper e = absurd (let z : ◌≡◌ {A = ℕ} 0 1 = cc in omega arith)
     played_eleven s k (mask ∷ masks) r n proper e =
         let s' = (ticked t s mask).state in
-        next-eleven (k + 1) r n s s' (played t s' (k + 1) masks) (ticked t s mask).answer (λ q h. tick_eleven s mask q proper h)
+        next_eleven (k + 1) r n s s' (played t s' (k + 1) masks) (ticked t s mask).answer (λ q h. tick_eleven s mask q proper h)
         (λ h. played_eleven s' (k + 1) masks r n (ticked_proper t s mask h))
         e
 

@@ -22,7 +22,7 @@ use Rattle.tasks.specs.declared.sheet.TaskRead.{TaskRead}
 use Rattle.tasks.specs.declared.sheet.TaskRead.TheVariants as TaskRead
 use Rattle.lists.proofs.Bools.{by_bool}
 use Rattle.lists.proofs.Fill.{eight_at, front_at, front_more}
-use Rattle.tasks.proofs.Groups.{Stands, number-stands, number_read}
+use Rattle.tasks.proofs.Groups.{Stands, number_stands, number_read}
 use Rattle.tasks.proofs.Fields.{field_read, field_passes}
 use Rattle.tasks.proofs.Tables.{FitTask, fit_task, task_fits, Valid, valid, not_refused}
 
@@ -94,9 +94,9 @@ module _ (s : List ℕ) (byte : (i : ℕ) → get_or s i 0 < 256) where
       let c = task_passed (number_at s b.at) (λ gap next. task_of a.v b.v gap next) task next b.then in
       let d = task_of_lem a.v b.v c.v c.at c.then in
       three s at a.v a.at b.v b.at c.v c.at task next d.0 d.1 d.2 d.3 d.4
-      (number-stands s byte at a.v a.at a.is)
-      (number-stands s byte a.at b.v b.at b.is)
-      (number-stands s byte b.at c.v c.at c.is)
+      (number_stands s byte at a.v a.at a.is)
+      (number_stands s byte a.at b.v b.at b.is)
+      (number_stands s byte b.at c.v c.at c.is)
 
 -- ---- the tasks of an accepted sheet
 
@@ -179,11 +179,11 @@ entry_fits : {t : Table} {j : ℕ} {task : Task} → Entry t j task → FitTask 
 entry_fits e f = rw (e.work, e.deadline, e.gap) f
 
 -- one task more
-tasks-more :
+tasks_more :
     (k i : ℕ) (t u : Table) (s : List ℕ) (at : ℕ) (task : Task) (next : ℕ) → Eight t → i < 8 → TaskStands s at task next → TasksRead k (i + 1) (with_task t i task) u s next
     → TasksRead (suc k) i t u s at
 unfolding tasks_bytes with_task
-tasks-more k i t u s at task next e h x r =
+tasks_more k i t u s at task next e h x r =
     let entry : Entry u i task = entry_same (r.earlier i (omega arith)) (set_entry t i task e h) in
     record {
       bytes = x.bytes ∙ ap₂ (λ a b. a ++ b) (entry_bytes entry) r.bytes;
@@ -224,7 +224,7 @@ module _ (s : List ℕ) (byte : (i : ℕ) → get_or s i 0 < 256) where
           → ((t : Table) (next : ℕ) → Eight t → i + 1 + k ≤ 8 → tasks_from k (i + 1) t s next ≡ accepted_as u → TasksRead k (i + 1) t u s next) → TasksRead (suc k) i t u s at
       go (TaskRead.Refused r) p f more = not_accepted f
       go (TaskRead.Read task next) p f more =
-          tasks-more k i t u s at task next e (omega arith) (task_stands s byte at task next p)
+          tasks_more k i t u s at task next e (omega arith) (task_stands s byte at task next p)
           (more (with_task t i task) next (set_eight t i task e) (omega arith) f)
 
 -- ---- an accepted sheet
@@ -279,13 +279,13 @@ module _ (s : List ℕ) (byte : (i : ℕ) → get_or s i 0 < 256) where
       let D = field_read s c.next 1 8 6 {v = d.v} {next = d.next} d.is in
       let three-is : a.v ≡ 3 = omega (arith, A.from, A.upto) in
       whole s t a.next b.v b.next c.v c.next d.v d.next
-      (number-stands s byte 0 3 a.next (A.number ∙ ap (λ v. Value v a.next) three-is))
+      (number_stands s byte 0 3 a.next (A.number ∙ ap (λ v. Value v a.next) three-is))
       B.upto
-      (number-stands s byte a.next b.v b.next B.number)
+      (number_stands s byte a.next b.v b.next B.number)
       (C.from, C.upto)
-      (number-stands s byte b.next c.v c.next C.number)
+      (number_stands s byte b.next c.v c.next C.number)
       (D.from, D.upto)
-      (number-stands s byte c.next d.v d.next D.number)
+      (number_stands s byte c.next d.v d.next D.number)
       (tasks_read s byte d.v 0 (empty_table b.v c.v d.v) t d.next (empty_eight b.v c.v d.v) (omega (arith, D.upto)) d.then)
 
   -- an accepted sheet read and written has the same bytes
@@ -354,11 +354,11 @@ firsts_all t e v = λ k.
     }
 
 -- the task that stands at a place is read
-task-read :
+task_read :
     (s : List ℕ) (at : ℕ) (t : Table) (i : ℕ) (rest : List ℕ) → FitTask (get_or t.work i 0) (get_or t.deadline i 0) (get_or t.gap i 0) → drop at s ≡ task_bytes t i ++ rest
     → task_at s at ≡ TaskRead.Read (entry t i) (at + length (task_bytes t i))
 unfolding task_at task_of task_bytes entry
-task-read s at t i rest f e =
+task_read s at t i rest f e =
     let C = get_or t.work i 0 in
     let D = get_or t.deadline i 0 in
     let P = get_or t.gap i 0 in
@@ -383,15 +383,15 @@ module _ (t : Table) (e : Eight t) (v : Valid t) (s : List ℕ) where
       rw (le-ltb at (length s) over) (ap accepted_as (ap (firsts t) all ∙ firsts_all t e v))
   tasks_written (suc k) i at h q =
       let i8 : i < 8 = omega (arith, v.tasks.1) in
-      let read = task-read s at t i (tasks_bytes t k (i + 1)) (v.each i (omega arith)) q in
+      let read = task_read s at t i (tasks_bytes t k (i + 1)) (v.each i (omega arith)) q in
       rw (read, firsts_more t i i8)
       (tasks_written k (i + 1) (at + length (task_bytes t i)) (omega arith) (after_part s at (task_bytes t i) (tasks_bytes t k (i + 1)) q))
 
 -- a number that stands at a place and keeps its rule is read
-field-stands :
+field_stands :
     (s : List ℕ) (at low high r x : ℕ) (rest : List ℕ) → low ≤ x → x ≤ high → high ≤ 8 → drop at s ≡ number_bytes x ++ rest
     → field_at s at low high r ≡ Value x (at + length (number_bytes x))
-field-stands s at low high r x rest l h b e =
+field_stands s at low high r x rest l h b e =
     field_passes (record { number = number_read x (omega arith) s at rest e; from = l; upto = h }) r
 
 -- a valid table written and read is the same table
@@ -412,5 +412,5 @@ write_read t e f =
     let e₄ : drop (0 + length (number_bytes 3) + length (number_bytes t.policy) + length (number_bytes t.m) + length (number_bytes t.n)) s ≡ W =
     after_part s (0 + length (number_bytes 3) + length (number_bytes t.policy) + length (number_bytes t.m)) (number_bytes t.n) W e₃ in
     rw
-    (field-stands s 0 3 3 3 3 X (omega arith) (omega arith) (omega arith) refl, field-stands s (0 + length (number_bytes 3)) 0 last_policy 4 t.policy Y (omega arith) v.policy (omega arith) e₁, field-stands s (0 + length (number_bytes 3) + length (number_bytes t.policy)) 1 8 5 t.m Z v.processors.0 v.processors.1 (omega arith) e₂, field-stands s (0 + length (number_bytes 3) + length (number_bytes t.policy) + length (number_bytes t.m)) 1 8 6 t.n W v.tasks.0 v.tasks.1 (omega arith) e₃)
+    (field_stands s 0 3 3 3 3 X (omega arith) (omega arith) (omega arith) refl, field_stands s (0 + length (number_bytes 3)) 0 last_policy 4 t.policy Y (omega arith) v.policy (omega arith) e₁, field_stands s (0 + length (number_bytes 3) + length (number_bytes t.policy)) 1 8 5 t.m Z v.processors.0 v.processors.1 (omega arith) e₂, field_stands s (0 + length (number_bytes 3) + length (number_bytes t.policy) + length (number_bytes t.m)) 1 8 6 t.n W v.tasks.0 v.tasks.1 (omega arith) e₃)
     (tasks_written t e v s t.n 0 (0 + length (number_bytes 3) + length (number_bytes t.policy) + length (number_bytes t.m) + length (number_bytes t.n)) (omega arith) e₄)

@@ -57,17 +57,17 @@ module _ (t : Table) (out : List ℕ) where
   write_short e h = refused 12 (omega arith) (refusal_short e h)
 
   -- the sheet stands at the front of the output
-  pub write-out :
+  pub write_out_lem :
       table_fault t ≡ 0 → length (sheet_bytes t) ≤ length out → write_out t out ≡ sheet_bytes t ++ drop (length (sheet_bytes t)) out
   unfolding write_out
-  write-out e h = rw (refusal_none e h)
+  write_out_lem e h = rw (refusal_none e h)
 
   pub write_done :
       table_fault t ≡ 0 → length (sheet_bytes t) ≤ length out → (writing_answer (Written (length (sheet_bytes t))) ≡ write_answer t out) × (sets out 0 (sheet_bytes t) ≡ write_out t out)
   unfolding writing_answer write_answer
   write_done e h =
       let z : 0 + length (sheet_bytes t) ≡ length (sheet_bytes t) = omega arith in
-      (rw (refusal_none e h), sets-eq (sheet_bytes t) out 0 (omega arith) ∙ ap (λ n. sheet_bytes t ++ drop n out) z ∙ sym (write-out e h))
+      (rw (refusal_none e h), sets-eq (sheet_bytes t) out 0 (omega arith) ∙ ap (λ n. sheet_bytes t ++ drop n out) z ∙ sym (write_out_lem e h))
 
 -- ---- the length of a sheet
 

@@ -26,10 +26,10 @@ module _ {old : List ℕ} {from : ℕ} {whole out : List ℕ} {at : ℕ} where
   pub storing_room : (a rest : List ℕ) → Storing old from whole out at (a ++ rest) → at + length a ≤ length out
   storing_room a rest s = omega (arith, s.place, s.len, s.room, length-append a rest)
 
-  pub storing-step :
+  pub storing_step :
       (a rest : List ℕ) → Storing old from whole out at (a ++ rest) → {out' : List ℕ} {at' : ℕ} → out' ≡ sets out at a → at' ≡ at + length a
       → Storing old from whole out' at' rest
-  storing-step a rest s {out'} {at'} e h =
+  storing_step a rest s {out'} {at'} e h =
       record {
         stored = rw (e, h) (sym (sets_append a rest out at) ∙ s.stored);
         place = omega (arith, s.place, length-append a rest);

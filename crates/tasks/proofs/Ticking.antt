@@ -13,7 +13,7 @@ use borrow.Author.Tests.{eq-eqb, ne_eqb, ltb-true, ltb-false, lt-ltb, le-ltb}
 use Rattle.lists.specs.Lists.{eight, pick}
 use Rattle.jobs.specs.Job.{lex}
 use Rattle.jobs.specs.Place.{gap_mask, work_mask}
-use Rattle.jobs.proofs.Places.{InTime, job_place, place-less, place_range}
+use Rattle.jobs.proofs.Places.{InTime, job_place, place_less, place_range}
 use Rattle.cores.specs.Walk.{sooner, taken}
 use Rattle.cores.proofs.RankLaws.{sooner_some}
 use Rattle.tasks.specs.Table.{table_fault}
@@ -66,11 +66,11 @@ stays_test : (stays : Bool) (c work : ℕ) → ltb c (pick stays work 0) ≡ sta
 stays_test true c work = refl
 stays_test false c work = le-ltb c 0 (omega arith)
 
-place-word :
+place_word :
     (t : Table) (s : State) (i w : ℕ) → get_or s.c i 0 ≡ w % 256 → get_or s.p i 0 ≡ w / 256
     → place_in (gap_mask t.policy) (work_mask t.policy) (kept_at t i) (base_at t i) w ≡ place_at t s i
 unfolding place_in place_at job_at kept_at base_at keeps started
-place-word t s i w e k =
+place_word t s i w e k =
     rw (e, k)
     (by_bool (ltb 0 (w % 256))
     (λ r.
@@ -81,12 +81,12 @@ place-word t s i w e k =
     (λ r. rw r))
 
 -- the places of eight words, by the table made ready
-places-word :
+places_word :
     (t : Table) (v : List ℕ) (i : ℕ) → i < 8
     → get_or (places_in (eight (λ i. gap_mask t.policy)) (eight (λ i. work_mask t.policy)) (eight (kept_at t)) (eight (base_at t)) v) i 0
     ≡ place_in (gap_mask t.policy) (work_mask t.policy) (kept_at t i) (base_at t i) (get_or v i 0)
 unfolding places_in
-places-word t v i h =
+places_word t v i h =
     eight_at 0 (λ i. place_in (get_or (eight (λ i. gap_mask t.policy)) i 0) (get_or (eight (λ i. work_mask t.policy)) i 0) (get_or (eight (kept_at t)) i 0) (get_or (eight (base_at t)) i 0) (get_or v i 0)) i h
     ∙ ap₂ (λ x y. place_in x y (get_or (eight (kept_at t)) i 0) (get_or (eight (base_at t)) i 0) (get_or v i 0))
     (eight_at 0 (λ i. gap_mask t.policy) i h)
@@ -138,13 +138,13 @@ module _ (t : Table) (s : State) (mask : ℕ) (valid : table_fault t ≡ 0) (pro
   unfolding place_at
   place_free i w = rw (w.has, w.free)
 
-  job-less :
+  job_less :
       (j i : ℕ) → Waits t after_release j → Waits t after_release i
       → ltb (job_at t after_release j) (job_at t after_release i)
       ≡ lex (key t after_release j) (key t after_release i) (lt_z (age t after_release i) (age t after_release j))
   unfolding job_at key age
-  job-less j i w x =
-      place-less t.policy (get_or t.deadline j 0) (get_or t.gap j 0) (get_or after_release.p j 0) (get_or after_release.c j 0)
+  job_less j i w x =
+      place_less t.policy (get_or t.deadline j 0) (get_or t.gap j 0) (get_or after_release.p j 0) (get_or after_release.c j 0)
       (get_or t.deadline i 0) (get_or t.gap i 0) (get_or after_release.p i 0) (get_or after_release.c i 0)
       (in_time j w.small w.has) (in_time i x.small x.has)
 
@@ -153,13 +153,13 @@ module _ (t : Table) (s : State) (mask : ℕ) (valid : table_fault t ≡ 0) (pro
   job_range i w =
       place_range t.policy (get_or t.deadline i 0) (get_or t.gap i 0) (get_or after_release.p i 0) (get_or after_release.c i 0) (in_time i w.small w.has)
 
-  job-before :
+  job_before :
       (j i : ℕ) → Waits t after_release j → Waits t after_release i
       → sooner (job_at t after_release j) j (job_at t after_release i) i ≡ before t after_release j i
   unfolding before
-  job-before j i w x =
+  job_before j i w x =
       sooner_less (job_at t after_release j) j (job_at t after_release i) i (job_range j w).1 (job_range i x).1
-      ∙ rw (job-less j i w x, job-less i j x w)
+      ∙ rw (job_less j i w x, job_less i j x w)
       (three
       (lt_z (key t after_release j) (key t after_release i)) (lt_z (key t after_release i) (key t after_release j))
       (lt_z (age t after_release i) (age t after_release j)) (lt_z (age t after_release j) (age t after_release i)) (ltb j i))
@@ -172,7 +172,7 @@ module _ (t : Table) (s : State) (mask : ℕ) (valid : table_fault t ≡ 0) (pro
         none = λ i h r. at i h ∙ rw r;
         kept = λ i h r e. at i h ∙ rw (r, e);
         some = λ i w. rw (at i w.small ∙ place_free i w) (job_range i w);
-        order = λ j i w x. rw (at j w.small ∙ place_free j w, at i x.small ∙ place_free i x) (job-before j i w x);
+        order = λ j i w x. rw (at j w.small ∙ place_free j w, at i x.small ∙ place_free i x) (job_before j i w x);
       }
 
 -- ---- what a mask selects
@@ -220,12 +220,12 @@ word_new t i h =
     (idle_gap (released t start 255) i h ∙ ap (λ p. p - 1) (gap_on t start 255 i h (full i h)))
 
 -- the place of task i in a state's words
-state-place :
+state_place :
     (t : Table) (s : State) (i : ℕ) → i < 8 → get_or s.c i 0 < 256
     → get_or (places_in (eight (λ i. gap_mask t.policy)) (eight (λ i. work_mask t.policy)) (eight (kept_at t)) (eight (base_at t)) (words_of s)) i 0 ≡ place_at t s i
-state-place t s i h small =
-    places-word t (words_of s) i h
-    ∙ place-word t s i (get_or (words_of s) i 0)
+state_place t s i h small =
+    places_word t (words_of s) i h
+    ∙ place_word t s i (get_or (words_of s) i 0)
     (rw (words_at s i h) (omega arith))
     (rw (words_at s i h) (omega arith))
 
@@ -260,14 +260,14 @@ module _ (t : Table) (v : List ℕ) (mask : ℕ) (valid : table_fault t ≡ 0) (
       by_bool (bit mask i)
       (λ e.
       selected_new mask (prepared_by (ticker_of t) v).place (ticker_of t).newplace i h e
-      ∙ state-place t (released t start 255) i h (omega (arith, work_on t start 255 i h (full i h), ordered t valid i h))
+      ∙ state_place t (released t start 255) i h (omega (arith, work_on t start 255 i h (full i h), ordered t valid i h))
       ∙ place_same t (released t start 255) u i
       (work_on t start 255 i h (full i h) ∙ sym (work_on t (state_of v) mask i h e))
       (gap_on t start 255 i h (full i h) ∙ sym (gap_on t (state_of v) mask i h e)))
       (λ e.
       selected_old mask (prepared_by (ticker_of t) v).place (ticker_of t).newplace i h e
-      ∙ places-word t v i h
-      ∙ place-word t u i (get_or v i 0) (work_old i h e) (gap_old i h e))
+      ∙ places_word t v i h
+      ∙ place_word t u i (get_or v i 0) (work_old i h e) (gap_old i h e))
 
   -- the word is that of its two numbers, but for the run
   word_at : (i : ℕ) → i < 8 → lasting i ≡ get_or u.c i 0 + 256 * (get_or u.p i 0 - 1)
@@ -291,12 +291,12 @@ module _ (t : Table) (v : List ℕ) (mask : ℕ) (valid : table_fault t ≡ 0) (
   taken_at : (i : ℕ) → i < 8 → taken (eight places) t.m i ≡ runs t u i
   taken_at = taken_runs t u (eight places) places_at
 
-  ticked-at :
+  ticked_at :
       (i : ℕ) → i < 8
       → get_or (ticked_by (ticker_of t) (prepared_by (ticker_of t) v) mask) i 0
       ≡ get_or u.c i 0 + 256 * (get_or u.p i 0 - 1) - pick (runs t u i) 1 0
   unfolding ticked_by lowered ticker_of
-  ticked-at i h =
+  ticked_at i h =
       eight_at 0 (λ i. get_or (eight lasting) i 0 - pick (taken (eight places) t.m i) 1 0) i h
       ∙ ap₂ (λ w r. w - pick r 1 0)
       (eight_at 0 lasting i h ∙ word_at i h)
@@ -308,16 +308,16 @@ module _ (t : Table) (v : List ℕ) (mask : ℕ) (valid : table_fault t ≡ 0) (
   ticker_after =
       state_same
       (eight_same (λ i. get_or (ticked_by (ticker_of t) (prepared_by (ticker_of t) v) mask) i 0 % 256) (ran_at u.c (chosen t u)) (λ i h.
-      ap (λ w. w % 256) (ticked-at i h)
+      ap (λ w. w % 256) (ticked_at i h)
       ∙ word_low (runs t u i) (get_or u.c i 0) (get_or u.p i 0 - 1) (work_small i h) (runs_work t u i)
       ∙ ap (λ r. pick r (get_or u.c i 0 - 1) (get_or u.c i 0)) (sym (eight_at false (runs t u) i h))))
       (eight_same (λ i. get_or (ticked_by (ticker_of t) (prepared_by (ticker_of t) v) mask) i 0 / 256) (fallen u.p) (λ i h.
-      ap (λ w. w / 256) (ticked-at i h)
+      ap (λ w. w / 256) (ticked_at i h)
       ∙ word_high (runs t u i) (get_or u.c i 0) (get_or u.p i 0 - 1) (work_small i h) (runs_work t u i)))
 
 -- LAW: a tick of a proper state by its words
-pub ticker-state :
+pub ticker_state :
     (t : Table) (s : State) (mask : ℕ) → table_fault t ≡ 0 → improper t s ≡ false → StateBytes s
     → state_of (ticked_by (ticker_of t) (prepared_by (ticker_of t) (words_of s)) mask) ≡ after t s mask
-ticker-state t s mask valid proper k =
+ticker_state t s mask valid proper k =
     ticker_after t (words_of s) mask valid (rw (words_state s k) proper) (words_fit s k) ∙ ap (λ x. after t x mask) (words_state s k)

@@ -23,16 +23,16 @@ module _ (states masks : List ℕ) where
     unfolding sum
     sum_start = refl
 
-    pub sum-turn :
+    pub sum_turn :
         {x f : ℕ} (k : ℕ) → x ≡ sum t states masks k → f ≡ figure t (tick_of t (state_in states k) (get_or masks k 0))
         → (x + f) % 2 ^ 64 ≡ sum t states masks (k + 1)
     unfolding sum
-    sum-turn k e h = rw (add-one, e, h)
+    sum_turn k e h = rw (add-one, e, h)
 
-    pub sum-end :
+    pub sum_end :
         (table : List ℕ) {x n : ℕ} (k : ℕ) → x ≡ sum t states masks k → k ≤ n → n ≤ k → n ≡ pairs states masks → t ≡ table_of table → 27 ≤ length table
         → x ≡ ticks_sum table states masks
     unfolding ticks_sum
-    sum-end table k e a b p h l =
+    sum_end table k e a b p h l =
         let q : k ≡ pairs states masks = omega arith in
         e ∙ rw (le-ltb (length table) 27 l, q, h)

@@ -6,7 +6,7 @@ use borrow.Author.Tests.{not-true, not-false}
 use lib.ListN.{length}
 use Rattle.closed.specs.Keeping.{Inside}
 use Rattle.closed.proofs.InsideLaws.{BandsTo, bands_start, bands_next, bands_end}
-use Rattle.closed.proofs.RowLaws.{ready-cells}
+use Rattle.closed.proofs.RowLaws.{ready_cells}
 use native.Mathlib.Omega.{arith}
 use Rattle.closed.proofs.passes.all_inside.Statement.{statement}
 use Rattle.closed.proofs.passes.all_inside.Tie as tie
@@ -32,7 +32,7 @@ add-high c =
 band-inside-requires : tie.Need-band-inside-requires invariant-loop decreases-loop
 band-inside-requires c κs =
     let p = c.before.before.before.before.before.before.before.requires in
-    (ready-cells p.0 c.before.before.before.loop.invariant.0, p.1)
+    (ready_cells p.0 c.before.before.before.loop.invariant.0, p.1)
 
 same_length : tie.Need-same-length invariant-loop decreases-loop
 same_length c =

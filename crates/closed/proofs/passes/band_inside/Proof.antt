@@ -5,8 +5,8 @@ use mathlib.Core.Bool.{true, false}
 use borrow.Author.Tests.{not-true, not-false}
 use lib.ListN.{length}
 use Rattle.closed.specs.Keeping.{Inside}
-use Rattle.closed.proofs.InsideLaws.{ClassesTo, classes_start, classes-next, classes_end}
-use Rattle.closed.proofs.RowLaws.{ready-cells}
+use Rattle.closed.proofs.InsideLaws.{ClassesTo, classes_start, classes_next, classes_end}
+use Rattle.closed.proofs.RowLaws.{ready_cells}
 use native.Mathlib.Omega.{arith}
 use borrow.Author.Rules.{rules}
 use Rattle.closed.proofs.passes.band_inside.Statement.{statement}
@@ -39,7 +39,7 @@ index-pass-requires c κs =
 rows-inside-requires : tie.Need-rows-inside-requires invariant-loop decreases-loop
 rows-inside-requires c κs =
     let p = c.before.before.before.before.before.before.before.before.before.before.requires in
-    (ready-cells p.0 (c.before.before.before.index-pass.ensures ∙ c.before.before.before.before.before.before.loop.invariant.1), omega arith, p.1)
+    (ready_cells p.0 (c.before.before.before.index-pass.ensures ∙ c.before.before.before.before.before.before.loop.invariant.1), omega arith, p.1)
 
 same_length : tie.Need-same-length invariant-loop decreases-loop
 same_length c =
@@ -62,7 +62,7 @@ loop-again c =
     let yes : c.before.rows_Inside.result ≡ true = not-false c.before.rows_Inside.result c.if1.false in (
       omega arith,
       c.before.before.before.before.before.index-pass.ensures ∙ c.before.before.before.before.before.before.before.before.loop.invariant.1,
-      classes-next a.t a.file.now a.split a.low a.high _ c.before.before.before.before.before.before.before.before.loop.invariant.2 (rw yes at c.before.rows_Inside.ensures),
+      classes_next a.t a.file.now a.split a.low a.high _ c.before.before.before.before.before.before.before.before.loop.invariant.2 (rw yes at c.before.rows_Inside.ensures),
     )
 
 same-length-2 : tie.Need-same-length-2 invariant-loop decreases-loop

@@ -14,7 +14,7 @@ use Rattle.tasks.proofs.Free.{ticks, frees}
 use Rattle.states.proofs.MaskLaws.{walked_falls}
 use Rattle.states.specs.Bytes.{state_in}
 use Rattle.closed.specs.Keeping.{landing}
-use Rattle.closed.proofs.RowLaws.{RowTo, Row, row_start, row_next, row-skipped, row_end}
+use Rattle.closed.proofs.RowLaws.{RowTo, Row, row_start, row_next, row_skipped, row_end}
 use native.Mathlib.Omega.{arith}
 use borrow.Author.Rules.{rules}
 use Rattle.closed.proofs.passes.row_pending.Statement.{statement}
@@ -86,7 +86,7 @@ returns c =
     let s = c.before.before.before.before.before.before.before.before.before in
     let g = c.before.before.before.before.before in (
       omega arith,
-      row-skipped s.args.t s.args.file.now s.args.split s.args.pass s.args.i
+      row_skipped s.args.t s.args.file.now s.args.split s.args.pass s.args.i
           (due-is g false c.before.before.before.between.ensures c.before.before.before.before.landing.ensures) (due-is g true c.before.between2.ensures c.before.before.landing2.ensures) (not-true _ c.if1.true) s.args.n s.args.pending.now s.args.count,
     )
 

@@ -7,7 +7,7 @@ use lib.Dec.{leb, eqb}
 use lib.ListN.{length}
 use Rattle.lists.proofs.Bools.{nor_left, nor_right}
 use Rattle.closed.proofs.InsideLaws.{RowsTo}
-use Rattle.closed.proofs.PendingLaws.{Waiting, waiting_start, waiting-next, waiting_held, waiting_end, waiting-open}
+use Rattle.closed.proofs.PendingLaws.{Waiting, waiting_start, waiting_next, waiting_held, waiting_end, waiting_open}
 use native.Mathlib.Omega.{arith}
 use borrow.Author.Rules.{rules}
 use Rattle.closed.proofs.passes.rows_inside.Statement.{statement}
@@ -50,8 +50,8 @@ returns c =
     let s = c.before.before.before.before.before.before.before.before.before.before.before in
     let l = c.before.before.before.before.before.before.before.before.loop in
     let none : c.before.all_held.result ≡ false = not-true c.before.all_held.result c.if2.true in
-    waiting-open s.args.t s.args.file.now s.args.n s.requires.0.given.valid s.requires.0.given.is
-    (waiting-next s.args.t s.args.file.now s.args.n s.args.split s.args.pass l.invariant.4 c.before.before.before.before.before.row-pending.ensures.1) (rw none at c.before.all_held.ensures)
+    waiting_open s.args.t s.args.file.now s.args.n s.requires.0.given.valid s.requires.0.given.is
+    (waiting_next s.args.t s.args.file.now s.args.n s.args.split s.args.pass l.invariant.4 c.before.before.before.before.before.row-pending.ensures.1) (rw none at c.before.all_held.ensures)
 
 loop-less : tie.Need-loop-smaller invariant-loop decreases-loop
 loop-less c = search rules
@@ -67,7 +67,7 @@ loop-again c =
       omega arith,
       λ e. refl,
       waiting_held s.args.t s.args.file.now s.args.n
-          (waiting-next s.args.t s.args.file.now s.args.n s.args.split s.args.pass l.invariant.4 r.1) (rw yes at c.before.all_held.ensures),
+          (waiting_next s.args.t s.args.file.now s.args.n s.args.split s.args.pass l.invariant.4 r.1) (rw yes at c.before.all_held.ensures),
     )
 
 loop-less-2 : tie.Need-loop-smaller-2 invariant-loop decreases-loop
@@ -84,7 +84,7 @@ loop-again-2 c =
       r.ensures.1.grown.same ∙ l.invariant.1,
       omega (arith, few),
       λ e. absurd (more (omega (arith, c.before.before.before.before.loop-test.true))),
-      waiting-next s.args.t s.args.file.now s.args.n s.args.split s.args.pass l.invariant.4 r.ensures.1,
+      waiting_next s.args.t s.args.file.now s.args.n s.args.split s.args.pass l.invariant.4 r.ensures.1,
     )
 
 returns-2 : tie.Need-returns-2 invariant-loop decreases-loop

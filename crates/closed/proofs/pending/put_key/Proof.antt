@@ -1,7 +1,7 @@
 -- Four numbers are written. Assumes nothing.
 use Prim.Native.Nat.{◌+◌, ◌*◌, ◌<◌}
 use lib.ListN.{length}
-use Rattle.closed.proofs.PendingLaws.{key-put}
+use Rattle.closed.proofs.PendingLaws.{key_put}
 use native.Mathlib.Omega.{arith}
 use borrow.Author.Rules.{rules}
 use Rattle.closed.proofs.pending.put_key.Statement.{statement}
@@ -54,7 +54,7 @@ same_length c = search rules
 
 returns : tie.Need-returns
 returns c =
-    key-put c.args.pending.now c.args.k c.args.key c.requires
+    key_put c.args.pending.now c.args.k c.args.key c.requires
 
 pub put-key-spec : {M : Type 1} → statement M
 put-key-spec =

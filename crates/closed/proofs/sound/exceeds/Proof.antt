@@ -1,6 +1,6 @@
 -- The three counts. Assumes nothing.
 use Rattle.tasks.specs.Words.{state_of}
-use Rattle.closed.proofs.SoundLaws.{exceeds_work, exceeds_gap, exceeds-kept}
+use Rattle.closed.proofs.SoundLaws.{exceeds_work, exceeds_gap, exceeds_kept}
 use borrow.Author.Rules.{rules}
 use Rattle.closed.proofs.sound.exceeds.Statement.{statement}
 use Rattle.closed.proofs.sound.exceeds.Tie as tie
@@ -28,7 +28,7 @@ returns-3 : tie.Need-returns-3
 returns-3 c =
     let h = c.before.before in
     let a = h.before.before.before.before.args in
-    exceeds-kept a.t (state_of a.v) h.before.before.before.count-work-above.ensures h.before.before.if1.false h.before.count-gap-above.ensures h.if2.false c.before.count-started.ensures
+    exceeds_kept a.t (state_of a.v) h.before.before.before.count-work-above.ensures h.before.before.if1.false h.before.count-gap-above.ensures h.if2.false c.before.count-started.ensures
 
 pub exceeds-spec : {M : Type 1} → statement M
 exceeds-spec =

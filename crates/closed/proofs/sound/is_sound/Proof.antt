@@ -8,7 +8,7 @@ use Rattle.lists.proofs.Bools.{clash}
 use Rattle.tasks.proofs.InWords.{WordList}
 use Rattle.states.specs.Miss.{full_by}
 use Rattle.states.proofs.MissLaws.{full_by_lem, calm_by}
-use Rattle.closed.proofs.RowLaws.{full-sound}
+use Rattle.closed.proofs.RowLaws.{full_sound}
 use Rattle.closed.proofs.SoundLaws.{proper_by, proper_within, proper_kept_all, loose_kept}
 use borrow.Author.Rules.{rules}
 use Rattle.closed.proofs.sound.is_sound.Statement.{statement}
@@ -61,7 +61,7 @@ returns-4 c =
     let within = sym c.before.before.before.before.before.before.exceeds.ensures ∙ c.before.before.before.before.before.if1.false in
     let proper = proper_by t (state_of v) s.requires.0 within (sym c.before.before.misses.ensures ∙ c.before.if3.false) in
     let full = c.full-misses.ensures in
-    full-sound t (state_of v) (not c.full-misses.result) s.requires.0 proper
+    full_sound t (state_of v) (not c.full-misses.result) s.requires.0 proper
     (λ e. calm_by t s.requires.0 (state_of v) proper refl s.requires.1 (word-list s) (rw (sym full ∙ not-true _ e) (and_no (tight t (state_of v)))))
     (λ e. sym (full_by_lem t s.requires.0 (state_of v) proper refl s.requires.1 (word-list s)) ∙ sym full ∙ not-false _ e)
 

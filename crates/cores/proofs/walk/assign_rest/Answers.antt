@@ -1,8 +1,8 @@
 use mathlib.Core.Path.{refl}
-use Rattle.cores.proofs.WalkLaws.{walk-rest}
+use Rattle.cores.proofs.WalkLaws.{walk_rest}
 use borrow.Author.Rules.{rules}
 use Rattle.cores.proofs.walk.assign_rest.Goals as goal
 
 pub returns : goal.returns
 returns c =
-    (walk-rest _ _ c.below.ensures c.requires.0 c.requires.1, refl)
+    (walk_rest _ _ c.below.ensures c.requires.0 c.requires.1, refl)

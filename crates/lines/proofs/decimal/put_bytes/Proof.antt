@@ -5,7 +5,7 @@ use mathlib.Core.List.{[], ◌∷◌}
 use native.Mathlib.Numerals.{add-one}
 use lib.ListN.{length, get_or, drop}
 use lib.Seq.{drop-cons, drop-length}
-use Rattle.tasks.proofs.Stores.{Storing, storing_start, storing-step, storing_end}
+use Rattle.tasks.proofs.Stores.{Storing, storing_start, storing_step, storing_end}
 use native.Mathlib.Omega.{arith}
 use borrow.Author.Rules.{rules}
 use Rattle.lines.proofs.decimal.put_bytes.Statement.{statement}
@@ -42,7 +42,7 @@ loop-again c =
     let at = c.before.before.before.args.at in
     let below = c.before.loop-test.true in
     let p = rw (drop-cons s l.i 0 below, ← add-one l.i) at l.invariant.1 in
-    (omega arith, storing-step (get_or s l.i 0 ∷ []) (drop (l.i + 1) s) p refl (omega arith))
+    (omega arith, storing_step (get_or s l.i 0 ∷ []) (drop (l.i + 1) s) p refl (omega arith))
 
 add-result : tie.Need-overflow-add-result invariant-loop decreases-loop
 add-result c = let p = c.before.loop.invariant.1 in omega (arith, p.room)

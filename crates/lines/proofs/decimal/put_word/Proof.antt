@@ -1,6 +1,6 @@
 -- The word, and then the number. Assumes nothing.
 use mathlib.Core.List.{◌++◌}
-use Rattle.tasks.proofs.Stores.{storing_start, storing-step, storing_room, storing_left, storing_last}
+use Rattle.tasks.proofs.Stores.{storing_start, storing_step, storing_room, storing_left, storing_last}
 use Rattle.lines.specs.Lines.{decimal}
 use native.Mathlib.Omega.{arith}
 use borrow.Author.Rules.{rules}
@@ -16,7 +16,7 @@ put-decimal-requires : tie.Need-put-decimal-requires
 put-decimal-requires c κs =
     let a = c.before.before.before.before.before.before.before.args in
     let p = storing_start a.out.now a.at (a.word.now ++ decimal a.x) c.before.before.before.before.before.before.before.requires in
-    storing_left (decimal a.x) (storing-step a.word.now (decimal a.x) p c.before.before.before.put-bytes.ensures.1 c.before.before.before.put-bytes.ensures.0)
+    storing_left (decimal a.x) (storing_step a.word.now (decimal a.x) p c.before.before.before.put-bytes.ensures.1 c.before.before.before.put-bytes.ensures.0)
 
 same_length : tie.Need-same-length
 same_length c = search rules
@@ -25,7 +25,7 @@ returns : tie.Need-returns
 returns c =
     let a = c.before.before.before.before.before.before.before.before.before.before.args in
     let p = storing_start a.out.now a.at (a.word.now ++ decimal a.x) c.before.before.before.before.before.before.before.before.before.before.requires in
-    let q = storing-step a.word.now (decimal a.x) p c.before.before.before.before.before.before.put-bytes.ensures.1 c.before.before.before.before.before.before.put-bytes.ensures.0 in
+    let q = storing_step a.word.now (decimal a.x) p c.before.before.before.before.before.before.put-bytes.ensures.1 c.before.before.before.before.before.before.put-bytes.ensures.0 in
     (omega (arith, c.before.before.put-decimal.ensures.0, q.place), storing_last (decimal a.x) q c.before.before.put-decimal.ensures.1)
 
 pub put-word-spec : {M : Type 1} → statement M

@@ -1,7 +1,7 @@
 -- The lines of every answer fit the output. Assumes nothing.
 use mathlib.Core.Path.{◌≡◌, sym, ◌∙◌}
 use lib.ListN.{length}
-use Rattle.lines.proofs.LineLaws.{written-text, refused_short}
+use Rattle.lines.proofs.LineLaws.{written_text, refused_short}
 use native.Mathlib.Omega.{arith}
 use borrow.Author.Rules.{rules}
 use Rattle.lines.proofs.program.print_lines.Statement.{statement}
@@ -20,7 +20,7 @@ returns : tie.Need-returns
 returns c =
     let a = c.before.before.before.before.before.before.args in
     let put = c.before.before.before.put-lines.ensures in
-    written-text a.a a.trace.now a.out.now (sym c.before.n.given.1 ∙ put.0) put.1
+    written_text a.a a.trace.now a.out.now (sym c.before.n.given.1 ∙ put.0) put.1
 
 returns-2 : tie.Need-returns-2
 returns-2 c =

@@ -3,7 +3,7 @@ use Prim.Native.Nat.{ℕ, ◌≤◌}
 use mathlib.Core.Path.{◌≡◌}
 use mathlib.Core.List.{List, ◌++◌}
 use lib.ListN.{length}
-use Rattle.tasks.proofs.Stores.{Storing, storing_start, storing-step, storing_room, storing_left, storing_last}
+use Rattle.tasks.proofs.Stores.{Storing, storing_start, storing_step, storing_room, storing_left, storing_last}
 use Rattle.search.specs.declared.run.SearchAnswer.{SearchAnswer}
 use Rattle.search.specs.declared.run.SearchAnswer.TheVariants.{Unsafe}
 use Rattle.lines.specs.Lines.{decimal, line, unsafe_word, blank, first_line}
@@ -50,7 +50,7 @@ put-line-requires-2 c κs =
     let w = unsafe_word ++ decimal c.before.before.before.before.before.before.before.before.a2.given.0.0 in
     let l = line blank c.before.before.before.before.before.before.before.before.a2.given.0.1.0 in
     let p = whole c.before.before.before.before.before.before.before.before.before.before.before.args.out.now c.before.before.before.before.before.before.before.before.before.before.before.requires c.before.before.before.before.before.before.before.before.a2.given.1 in
-    storing_left l (storing-step w l p c.before.before.before.before.put_word.ensures.1 c.before.before.before.before.put_word.ensures.0)
+    storing_left l (storing_step w l p c.before.before.before.before.put_word.ensures.1 c.before.before.before.before.put_word.ensures.0)
 
 enum-known-a-3 : tie.Need-enum-known-a-3
 enum-known-a-3 c = search rules
@@ -91,7 +91,7 @@ returns-2 c =
     let w = unsafe_word ++ decimal c.before.before.before.before.before.before.before.before.before.before.before.a2.given.0.0 in
     let l = line blank c.before.before.before.before.before.before.before.before.before.before.before.a2.given.0.1.0 in
     let p = whole c.before.before.before.before.before.before.before.before.before.before.before.before.before.before.args.out.now c.before.before.before.before.before.before.before.before.before.before.before.before.before.before.requires c.before.before.before.before.before.before.before.before.before.before.before.a2.given.1 in
-    let q = storing-step w l p c.before.before.before.before.before.before.before.put_word.ensures.1 c.before.before.before.before.before.before.before.put_word.ensures.0 in
+    let q = storing_step w l p c.before.before.before.before.before.before.before.put_word.ensures.1 c.before.before.before.before.before.before.before.put_word.ensures.0 in
     rw c.before.before.before.before.before.before.before.before.before.before.before.a2.given.1 (omega (arith, c.before.before.put-line2.ensures.0, q.place), storing_last l q c.before.before.put-line2.ensures.1)
 
 same-length-3 : tie.Need-same-length-3

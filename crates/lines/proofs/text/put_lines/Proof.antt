@@ -8,7 +8,7 @@ use lib.ListN.{length, take, length-append}
 use lib.Seq.{sets, length-take-le}
 use borrow.Author.Tests.{leb-true, leb-false}
 use Rattle.tasks.specs.declared.writer.Writing.TheVariants.{Written}
-use Rattle.tasks.proofs.Stores.{Storing, storing_start, storing-step, storing_left, storing_last}
+use Rattle.tasks.proofs.Stores.{Storing, storing_start, storing_step, storing_left, storing_last}
 use Rattle.search.specs.declared.run.SearchAnswer.{SearchAnswer}
 use Rattle.lines.specs.Lines.{first_line, mask_lines, masks_given, lines_of}
 use Rattle.lines.proofs.LineLaws.{lines_length, lines_short, lines_fit, lines_stored, lines_most}
@@ -61,7 +61,7 @@ put-masks-requires c κs =
     let a = c.before.before.before.before.before.before.before.before.before.before.before.before.before.args in
     let masks = take c.before.before.before.before.before.before.before.before.before.before.mask-count.result a.trace.now in
     let p = begun a.a masks a.out.now c.before.before.before.before.before.before.before.before.first-len.ensures.0 c.before.before.before.before.before.before.before.if1.false (sym c.before.before.before.before.before.before.masks-fit.ensures ∙ c.before.before.before.before.before.if2.true) in
-    storing_left (mask_lines masks) (storing-step (first_line a.a) (mask_lines masks) p c.before.before.before.put_first.ensures.1 (omega (arith, c.before.before.before.put_first.ensures.0)))
+    storing_left (mask_lines masks) (storing_step (first_line a.a) (mask_lines masks) p c.before.before.before.put_first.ensures.1 (omega (arith, c.before.before.before.put_first.ensures.0)))
 
 same_length : tie.Need-same-length
 same_length c = search rules
@@ -73,7 +73,7 @@ returns-2 c =
     let n = c.before.before.before.before.before.before.before.before.before.before.before.first-len.ensures in
     let p = begun a.a masks a.out.now n.0 c.before.before.before.before.before.before.before.before.before.before.if1.false (sym c.before.before.before.before.before.before.before.before.before.masks-fit.ensures ∙ c.before.before.before.before.before.before.before.before.if2.true) in
     let next : c.before.before.before.before.before.before.put_first.result ≡ 0 + length (first_line a.a) = omega (arith, c.before.before.before.before.before.before.put_first.ensures.0) in
-    let q = storing-step (first_line a.a) (mask_lines masks) p c.before.before.before.before.before.before.put_first.ensures.1 next in
+    let q = storing_step (first_line a.a) (mask_lines masks) p c.before.before.before.before.before.before.put_first.ensures.1 next in
     let text = whole a.a a.trace.now c.before.before.before.before.before.before.before.before.before.before.before.before.before.mask-count.result (c.before.before.before.before.before.before.before.before.before.before.before.before.before.mask-count.ensures.1 a.trace.now refl) in
     let room : length (lines_of a.a a.trace.now) ≤ length a.out.now = omega (arith, p.room, ap length text) in
     let long : c.before.before.put-masks.result ≡ length (lines_of a.a a.trace.now) = omega (arith, c.before.before.put-masks.ensures.0, q.place, ap length text) in (

@@ -2,7 +2,7 @@
 use Prim.Native.Nat.{◌+◌, ◌-◌, ◌≤◌}
 use mathlib.Core.List.{[]}
 use lib.ListN.{length, get_or, drop}
-use Rattle.tasks.proofs.Stores.{Storing, storing_start, storing-step, storing_room, storing_end}
+use Rattle.tasks.proofs.Stores.{Storing, storing_start, storing_step, storing_room, storing_end}
 use Rattle.lines.specs.Lines.{line, mask_lines}
 use Rattle.lines.proofs.LineLaws.{masks_turn, masks_end}
 use native.Mathlib.Omega.{arith}
@@ -45,7 +45,7 @@ loop-again c =
     let l = c.before.before.before.before.before.before.before.before.loop in
     let p = rw (masks_turn c.before.before.before.before.before.before.before.before.before.before.before.args.masks.now l.i c.before.before.before.before.before.before.before.loop-test.true) at l.invariant.1 in
     let w = rw c.before.before.before.wide.ensures.0 at c.before.before.put-line.ensures in
-    (omega arith, storing-step (line [] (get_or c.before.before.before.before.before.before.before.before.before.before.before.args.masks.now l.i 0)) (mask_lines (drop (l.i + 1) c.before.before.before.before.before.before.before.before.before.before.before.args.masks.now)) p w.1 w.0)
+    (omega arith, storing_step (line [] (get_or c.before.before.before.before.before.before.before.before.before.before.before.args.masks.now l.i 0)) (mask_lines (drop (l.i + 1) c.before.before.before.before.before.before.before.before.before.before.before.args.masks.now)) p w.1 w.0)
 
 same_length : tie.Need-same-length invariant-loop decreases-loop
 same_length c = c.before.loop.invariant.1.len

@@ -2,7 +2,7 @@
 use mathlib.Core.Path.{ap, ◌∙◌}
 use Rattle.tasks.proofs.Answers.{sheet_reading}
 use Rattle.ronchhek.specs.Cuts.{first_number, first_space}
-use Rattle.ronchhek.proofs.CutLaws.{cut_refused, cut-first}
+use Rattle.ronchhek.proofs.CutLaws.{cut_refused, cut_first}
 use borrow.Author.Rules.{rules}
 use Rattle.ronchhek.proofs.cuts.ronchhek_cut.Statement.{statement}
 use Rattle.ronchhek.proofs.cuts.ronchhek_cut.Tie as tie
@@ -37,7 +37,7 @@ returns-2 c =
     let h = c.before.before.before.before.before.before.before in
     let a = h.before.before.before.args in
     let read = h.read-sheet.ensures in
-    let is = cut-first a.sheet.now a.k a.out.now (sheet_reading read ∙ c.before.before.before.before.enum_told.given.1) in
+    let is = cut_first a.sheet.now a.k a.out.now (sheet_reading read ∙ c.before.before.before.before.enum_told.given.1) in
     (w.0 ∙ ap (λ t. first_number t a.k a.out.now) read.1 ∙ is.0, w.1 ∙ ap (λ t. first_space t a.k a.out.now) read.1 ∙ is.1)
 
 pub ronchhek-cut-spec : {M : Type 1} → statement M

@@ -3,7 +3,7 @@ use mathlib.Core.Path.{ap, ◌∙◌}
 use Rattle.tasks.specs.Sheet.{write_out}
 use Rattle.tasks.proofs.Answers.{sheet_reading}
 use Rattle.ronchhek.specs.Tables.{sheet_number}
-use Rattle.ronchhek.proofs.CutLaws.{first_refused, first-written}
+use Rattle.ronchhek.proofs.CutLaws.{first_refused, first_written}
 use borrow.Author.Rules.{rules}
 use Rattle.ronchhek.proofs.cuts.write_first.Statement.{statement}
 use Rattle.ronchhek.proofs.cuts.write_first.Tie as tie
@@ -38,7 +38,7 @@ returns-2 c =
     let h = c.before.before.before.before.before.before.before in
     let a = h.before.before.args in
     let cut = h.cut-table.ensures in
-    let is = first-written a.t a.k a.out.now (sheet_reading cut ∙ c.before.before.before.before.enum_told.given.1) in
+    let is = first_written a.t a.k a.out.now (sheet_reading cut ∙ c.before.before.before.before.enum_told.given.1) in
     (w.0 ∙ ap (λ t. sheet_number t a.out.now) cut.1 ∙ is.0, w.1 ∙ ap (λ t. write_out t a.out.now) cut.1 ∙ is.1)
 
 pub write-first-spec : {M : Type 1} → statement M

@@ -4,7 +4,7 @@ use Rattle.tasks.specs.Sheet.{write_out}
 use Rattle.tasks.proofs.Answers.{sheet_reading}
 use Rattle.practice.proofs.Theorems.{answer_made}
 use Rattle.ronchhek.specs.Tables.{sheet_number}
-use Rattle.ronchhek.proofs.PracticeLaws.{number-refused, practice-written}
+use Rattle.ronchhek.proofs.PracticeLaws.{number_refused, practice_written}
 use borrow.Author.Rules.{rules}
 use Rattle.ronchhek.proofs.practices.ronchhek_practice.Statement.{statement}
 use Rattle.ronchhek.proofs.practices.ronchhek_practice.Tie as tie
@@ -28,7 +28,7 @@ returns : tie.Need-returns
 returns c =
     let h = c.before.before.before.before in
     let a = h.before.before.args in
-    number-refused a.policy a.m a.n a.seed a.out.now (sheet_reading h.practice-table.ensures ∙ c.before.answer.given.1)
+    number_refused a.policy a.m a.n a.seed a.out.now (sheet_reading h.practice-table.ensures ∙ c.before.answer.given.1)
 
 same_length : tie.Need-same-length
 same_length c = search rules
@@ -40,7 +40,7 @@ returns-2 c =
     let a = h.before.before.args in
     let made = h.practice-table.ensures in
     let table_is = made.1 ∙ answer_made a.policy a.m a.n a.seed (sheet_reading made ∙ c.before.before.before.before.enum_told.given.1) in
-    let is = practice-written a.policy a.m a.n a.seed a.out.now in
+    let is = practice_written a.policy a.m a.n a.seed a.out.now in
     (w.0 ∙ ap (λ t. sheet_number t a.out.now) table_is ∙ is.0, w.1 ∙ ap (λ t. write_out t a.out.now) table_is ∙ is.1)
 
 pub ronchhek-practice-spec : {M : Type 1} → statement M

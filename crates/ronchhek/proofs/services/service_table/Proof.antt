@@ -4,7 +4,7 @@ use Rattle.tasks.specs.Replay.{replay_tick, outcome_tick}
 use Rattle.tasks.proofs.Answers.{replay_is, writing_is}
 use Rattle.ronchhek.specs.Replays.{refused_at}
 use Rattle.ronchhek.proofs.ReplayLaws.{told, not_written, written_room, long_number, refused_number, unwritten_number, played_number}
-use Rattle.ronchhek.proofs.ServiceLaws.{long_totals, table-written}
+use Rattle.ronchhek.proofs.ServiceLaws.{long_totals, table_written}
 use native.Mathlib.Omega.{arith}
 use borrow.Author.Rules.{rules}
 use Rattle.ronchhek.proofs.services.service_table.Statement.{statement}
@@ -63,7 +63,7 @@ returns-2 c =
     let a = h.args in
     let short = c.before.before.before.before.before.before.before.before.before.before.if1.false in
     let r = c.before.before.before.before.before.before.before.before.before.service in
-    let left = table-written a.t a.list.now a.totals.now h.requires short r.ensures.2 c.before.before.before.before.before.before.write-totals.ensures.1 in
+    let left = table_written a.t a.list.now a.totals.now h.requires short r.ensures.2 c.before.before.before.before.before.before.write-totals.ensures.1 in
     let refused = told (replay_is (r.ensures.0, r.ensures.1)) ∙ c.before.before.answer.given.1 in
     (c.refused-at2.ensures ∙ refused_number 192 a.t a.list.now a.totals.now short _ _ refused, left)
 
@@ -76,7 +76,7 @@ returns-3 c =
     let a = h.args in
     let short = c.before.before.before.before.before.before.before.before.before.before.before.before.before.if1.false in
     let r = c.before.before.before.before.before.before.before.before.before.before.before.before.service in
-    let left = table-written a.t a.list.now a.totals.now h.requires short r.ensures.2 c.before.before.before.before.before.before.before.before.before.write-totals.ensures.1 in
+    let left = table_written a.t a.list.now a.totals.now h.requires short r.ensures.2 c.before.before.before.before.before.before.before.before.before.write-totals.ensures.1 in
     let played = told (replay_is (r.ensures.0, r.ensures.1)) ∙ c.before.before.before.before.before.answer2.given.1 in
     let none = not_written 192 a.totals.now (sym c.before.before.written.given.1 ∙ writing_is c.before.before.before.before.before.before.before.before.before.write-totals.ensures.0) in
     (c.refused-at3.ensures ∙ ap (λ n. refused_at n 0) none.1 ∙ unwritten_number 192 a.t a.list.now a.totals.now short _ played none.0, left)
@@ -90,7 +90,7 @@ returns-4 c =
     let a = h.args in
     let short = c.before.before.before.before.before.before.before.before.before.before.before.before.if1.false in
     let r = c.before.before.before.before.before.before.before.before.before.before.before.service in
-    let left = table-written a.t a.list.now a.totals.now h.requires short r.ensures.2 c.before.before.before.before.before.before.before.before.write-totals.ensures.1 in
+    let left = table_written a.t a.list.now a.totals.now h.requires short r.ensures.2 c.before.before.before.before.before.before.before.before.write-totals.ensures.1 in
     let played = told (replay_is (r.ensures.0, r.ensures.1)) ∙ c.before.before.before.before.answer2.given.1 in
     let room = written_room 192 a.totals.now (sym c.before.enum_told.given.1 ∙ writing_is c.before.before.before.before.before.before.before.before.write-totals.ensures.0) in
     (c.outcome-number.ensures ∙ played_number 192 a.t a.list.now a.totals.now short _ played room, left)

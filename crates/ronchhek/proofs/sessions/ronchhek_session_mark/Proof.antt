@@ -1,5 +1,5 @@
 use Rattle.session.specs.declared.calls.Call.TheVariants as Call
-use Rattle.ronchhek.proofs.SessionLaws.{number-told}
+use Rattle.ronchhek.proofs.SessionLaws.{number_told}
 use borrow.Author.Rules.{rules}
 use Rattle.ronchhek.proofs.sessions.ronchhek_session_mark.Statement.{statement}
 use Rattle.ronchhek.proofs.sessions.ronchhek_session_mark.Tie as tie
@@ -17,7 +17,7 @@ returns : tie.Need-returns
 returns c =
     let h = c.before.before.before in
     let a = h.before.before.before.before.args in
-    (number-told a.sheet.now a.session.now (Call.SetMark a.mark) h.call-sheet.result h.call-sheet.ensures.0 c.session-number.ensures, h.call-sheet.ensures.1)
+    (number_told a.sheet.now a.session.now (Call.SetMark a.mark) h.call-sheet.result h.call-sheet.ensures.0 c.session-number.ensures, h.call-sheet.ensures.1)
 
 pub ronchhek-session-mark-spec : {M : Type 1} → statement M
 ronchhek-session-mark-spec =

@@ -1,5 +1,5 @@
 use Rattle.session.specs.declared.calls.Call.TheVariants as Call
-use Rattle.ronchhek.proofs.SessionLaws.{number-told}
+use Rattle.ronchhek.proofs.SessionLaws.{number_told}
 use borrow.Author.Rules.{rules}
 use Rattle.ronchhek.proofs.sessions.ronchhek_session_return.Statement.{statement}
 use Rattle.ronchhek.proofs.sessions.ronchhek_session_return.Tie as tie
@@ -17,7 +17,7 @@ returns : tie.Need-returns
 returns c =
     let h = c.before.before.before in
     let a = h.before.before.before.before.args in
-    (number-told a.sheet.now a.session.now (Call.ReturnTo a.mark) h.call-sheet.result h.call-sheet.ensures.0 c.session-number.ensures, h.call-sheet.ensures.1)
+    (number_told a.sheet.now a.session.now (Call.ReturnTo a.mark) h.call-sheet.result h.call-sheet.ensures.0 c.session-number.ensures, h.call-sheet.ensures.1)
 
 pub ronchhek-session-return-spec : {M : Type 1} → statement M
 ronchhek-session-return-spec =

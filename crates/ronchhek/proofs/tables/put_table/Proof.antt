@@ -3,9 +3,9 @@ use Prim.Native.Nat.{ℕ, suc, ◌+◌, ◌-◌, ◌*◌, ◌≤◌}
 use mathlib.Core.Path.{◌≡◌, ◌∙◌}
 use mathlib.Core.List.{[], ◌∷◌}
 use lib.ListN.{length, get_or, set, length-set}
-use Rattle.tasks.proofs.Stores.{Storing, storing_start, storing-step, storing_end}
+use Rattle.tasks.proofs.Stores.{Storing, storing_start, storing_step, storing_end}
 use Rattle.ronchhek.specs.Tables.{entries, table_bytes}
-use Rattle.ronchhek.proofs.TableLaws.{entries-turn, entries_end, entries_length}
+use Rattle.ronchhek.proofs.TableLaws.{entries_turn, entries_end, entries_length}
 use native.Mathlib.Omega.{arith}
 use borrow.Author.Rules.{rules}
 use Rattle.ronchhek.proofs.tables.put_table.Statement.{statement}
@@ -79,8 +79,8 @@ loop-again c =
     let two : at + 2 ≡ suc (suc at) = omega arith in
     let next : 3 + 3 * (i + 1) ≡ at + 3 = omega arith in
     let three = get_or t.work i 0 ∷ get_or t.deadline i 0 ∷ get_or t.gap i 0 ∷ [] in
-    let s = rw (entries-turn t i c.before.before.before.loop-test.true) at l.loop.invariant.2 in
-    (omega arith, simp length-set l.loop.invariant.1, storing-step three _ s (rw (one, two)) next)
+    let s = rw (entries_turn t i c.before.before.before.loop-test.true) at l.loop.invariant.2 in
+    (omega arith, simp length-set l.loop.invariant.1, storing_step three _ s (rw (one, two)) next)
 
 same_length : tie.Need-same-length invariant-loop decreases-loop
 same_length c = c.before.loop.invariant.2.len ∙ simp length-set

@@ -2,7 +2,7 @@
 use mathlib.Core.Path.{ap, ◌∙◌}
 use Rattle.tasks.specs.Sheet.{write_out}
 use Rattle.ronchhek.specs.Tables.{sheet_number}
-use Rattle.ronchhek.proofs.TableLaws.{table_short, table_long, table-whole}
+use Rattle.ronchhek.proofs.TableLaws.{table_short, table_long, table_whole}
 use borrow.Author.Rules.{rules}
 use Rattle.ronchhek.proofs.tables.ronchhek_write.Statement.{statement}
 use Rattle.ronchhek.proofs.tables.ronchhek_write.Tie as tie
@@ -27,7 +27,7 @@ returns-3 c =
     let w = c.before.before.write-table.ensures in
     let h = c.before.before.before.before in
     let a = h.before.before.before.before.before.args in
-    let is = table-whole a.table.now a.out.now h.before.before.if1.false h.before.if2.false in
+    let is = table_whole a.table.now a.out.now h.before.before.if1.false h.before.if2.false in
     (w.0 ∙ ap (λ t. sheet_number t a.out.now) h.table-from.ensures ∙ is.0, w.1 ∙ ap (λ t. write_out t a.out.now) h.table-from.ensures ∙ is.1)
 
 pub ronchhek-write-spec : {M : Type 1} → statement M

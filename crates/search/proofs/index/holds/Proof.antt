@@ -8,7 +8,7 @@ use Rattle.states.specs.Keys.{key_in}
 use Rattle.search.specs.Indexed.{bucket_for, bucket_of, tag_of, newest, tags_in}
 use Rattle.states.proofs.WordLaws.{word_bytes}
 use Rattle.states.proofs.KeyLaws.{Bytes, keys_same, keys_differ}
-use Rattle.search.proofs.IndexLaws.{keyed, not-tagged}
+use Rattle.search.proofs.IndexLaws.{keyed, not_tagged}
 use Rattle.states.proofs.ColumnLaws.{held, held_key}
 use native.Mathlib.Omega.{arith}
 use borrow.Author.Rules.{rules}
@@ -43,7 +43,7 @@ returns : tie.Need-returns invariant-loop decreases-loop
 unfolding bucket_of tag_of tags_in
 returns c =
     let start = c.before.before.before.before.before.before.before in
-    not-tagged start.requires (state_of start.args.v) (rw (c.before.before.before.bucket.ensures.0, c.before.tag-bit.ensures.0, c.before.before.before.before.key_of.ensures) at c.if1.true)
+    not_tagged start.requires (state_of start.args.v) (rw (c.before.before.before.bucket.ensures.0, c.before.tag-bit.ensures.0, c.before.before.before.before.key_of.ensures) at c.if1.true)
 
 cast-cur : tie.Need-overflow-cast-cur invariant-loop decreases-loop
 cast-cur c = omega arith

@@ -5,7 +5,7 @@ use native.Mathlib.Numerals.{add-one}
 use lib.ListN.{get_or}
 use Rattle.tasks.specs.Words.{state_of}
 use Rattle.search.specs.Indexed.{bucket_for, bucket_of, tag_of, newest, tags_in}
-use Rattle.slots.proofs.RunningLaws.{word_link, word_place, put-slot}
+use Rattle.slots.proofs.RunningLaws.{word_link, word_place, put_slot}
 use Rattle.states.proofs.WordLaws.{word_bytes}
 use Rattle.states.proofs.KeyLaws.{Bytes}
 use Rattle.search.proofs.TagLaws.{tags_fit}
@@ -75,8 +75,8 @@ returns c =
     let bucket = c.before.before.before.before.before.before.before.bucket in
     let word = c.before.before.before.before.before.word_of in
     let fits = bytes start in
-    let put = put-slot a.work.now (state_of a.v) word.result a.mask start.requires.1 start.requires.0.fits fits.c_length fits.p_length (omega (arith, word.type-inv)) in
-    rw (c.before.before.before.put-slot.ensures, c.tag-bit.ensures.0, key, add-one a.n)
+    let put = put_slot a.work.now (state_of a.v) word.result a.mask start.requires.1 start.requires.0.fits fits.c_length fits.p_length (omega (arith, word.type-inv)) in
+    rw (c.before.before.before.put_slot.ensures, c.tag-bit.ensures.0, key, add-one a.n)
     (pushed start.requires.0 put start.requires.1 bucket.result (ap (λ x. x % 1048576) word.ensures ∙ word_link a.parent _ (omega arith))
     (bucket.ensures.0 ∙ ap (bucket_for _) key) bucket.ensures.1 (ap (λ x. x / 1048576) word.ensures ∙ word_place a.parent _ (omega arith)))
 

@@ -5,7 +5,7 @@ use mathlib.Core.List.{◌++◌}
 use lib.ListN.{length, drop, length-set}
 use Rattle.levels.specs.Levels.{trail}
 use Rattle.slots.specs.Layout.{columns, parent_at, mask_at}
-use Rattle.search.proofs.ReportLaws.{trace-turn, trace-end}
+use Rattle.search.proofs.ReportLaws.{trace_turn, trace_end}
 use native.Mathlib.Omega.{arith}
 use borrow.Author.Rules.{rules}
 use Rattle.search.proofs.outcome.write_trace.Statement.{statement}
@@ -67,7 +67,7 @@ loop-again c =
       omega arith,
       length-set h.trace (h.at - 1) c.before.mask-of.result ∙ h.invariant.1,
       rw (c.parent_of.ensures, c.before.mask-of.ensures)
-          (trace-turn a.k a.work.now h.trace _ h.at h.j (omega arith) (omega (arith, length-set a.trace.now a.d a.m)) h.invariant.2),
+          (trace_turn a.k a.work.now h.trace _ h.at h.j (omega arith) (omega (arith, length-set a.trace.now a.d a.m)) h.invariant.2),
       λ n low b. rw c.parent_of.ensures (low h.j (h.invariant.3 n low b)),
     )
 
@@ -82,7 +82,7 @@ returns c =
     let r = c.before.before.before.before.requires in
     let h = c.before.loop in
     let e : h.at ≡ 0 = omega arith in
-    trace-end a.k a.work.now a.trace.now _ h.trace a.i a.d a.m h.j r.long refl (rw e at h.invariant.2)
+    trace_end a.k a.work.now a.trace.now _ h.trace a.i a.d a.m h.j r.long refl (rw e at h.invariant.2)
 
 pub write-trace-spec : {M : Type 1} → statement M
 write-trace-spec =

@@ -3,7 +3,7 @@ use mathlib.Core.Path.{◌≡◌, refl, ◌∙◌}
 use Prim.Native.Nat.{◌-◌}
 use lib.ListN.{length}
 use Rattle.tasks.specs.Words.{state_of}
-use Rattle.search.proofs.RunLaws.{Stands, none_indexed, first_stands, stands_level, next-stands, ran_miss, ran_safe, ran_full}
+use Rattle.search.proofs.RunLaws.{Stands, none_indexed, first_stands, stands_level, next_stands, ran_miss, ran_safe, ran_full}
 use native.Mathlib.Omega.{arith}
 use borrow.Author.Rules.{rules}
 use Rattle.search.proofs.run.run_levels.Statement.{statement}
@@ -124,7 +124,7 @@ loop-again c =
     let clear = rw c.before.before.before.before.before.before.before.before.before.before.before.before.before.before.enum_told.given.1 at c.before.before.before.before.before.before.before.before.before.before.before.before.before.before.before.before.hunt.ensures in
     let done = rw c.before.before.filled.given.1 at c.before.before.before.before.before.before.before.before.before.before.store-level.ensures in
     let store = c.before.before.before.before.before.before.before.before.before.before.store-level in
-    (store.auto.1.1.1.0 ∙ l.loop.invariant.0, store.auto.1.1.1.1.0 ∙ l.loop.invariant.1, next-stands (start l).requires.1 l.loop.invariant.2 clear done c.if1.false)
+    (store.auto.1.1.1.0 ∙ l.loop.invariant.0, store.auto.1.1.1.1.0 ∙ l.loop.invariant.1, next_stands (start l).requires.1 l.loop.invariant.2 clear done c.if1.false)
 
 pub run-levels-spec : {M : Type 1} → statement M
 run-levels-spec =

@@ -1,6 +1,6 @@
 -- What the levels leave, with the parents in the place of the words and the report, is what the claim says. Assumes nothing.
 use native.Mathlib.Omega.{arith}
-use Rattle.search.proofs.ClaimLaws.{ran-found}
+use Rattle.search.proofs.ClaimLaws.{ran_found}
 use borrow.Author.Rules.{rules}
 use Rattle.search.proofs.search.finish.Statement.{statement}
 use Rattle.search.proofs.search.finish.Tie as tie
@@ -28,7 +28,7 @@ returns c =
     let report = c.before.before.report in
     record {
       found = λ t w₀ valid len ran.
-          ran-found valid len ran settled report.result report.ensures report.auto.1.0 (λ i. omega (arith, c.slice-known4.given i));
+          ran_found valid len ran settled report.result report.ensures report.auto.1.0 (λ i. omega (arith, c.slice-known4.given i));
     }
 
 pub finish_spec : {M : Type 1} → statement M

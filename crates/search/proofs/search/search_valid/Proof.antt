@@ -1,6 +1,6 @@
 -- K is 0, the trace is too short, or the spaces will do. Assumes nothing.
 use Rattle.search.specs.Claim.{slots_in}
-use Rattle.search.proofs.ClaimLaws.{slots_is, refusal_nine, refusal_ten, refusal_zero, refused_search, found-search}
+use Rattle.search.proofs.ClaimLaws.{slots_is, refusal_nine, refusal_ten, refusal_zero, refused_search, found_search}
 use mathlib.Core.Path.{sym, ◌∙◌}
 use native.Mathlib.Omega.{arith}
 use borrow.Author.Rules.{rules}
@@ -47,7 +47,7 @@ returns-3 c =
     let k = c.before.before.before.before.before.before.before.before.before.slots-in in
     let a = c.before.before.before.before.before.before.before.before.before.before.before.before.args in
     let is = slots_is a.work.now k.ensures in
-    found-search (refusal_zero (slots_in a.work.now) a.trace.now (λ e. c.before.before.before.before.before.before.before.before.if1.false (is ∙ e)) (rw is at c.before.before.before.before.before.before.before.if2.false)) (rw is at c.before.before.before.before.search-sized.ensures)
+    found_search (refusal_zero (slots_in a.work.now) a.trace.now (λ e. c.before.before.before.before.before.before.before.before.if1.false (is ∙ e)) (rw is at c.before.before.before.before.before.before.before.if2.false)) (rw is at c.before.before.before.before.search-sized.ensures)
 
 pub search-valid-spec : {M : Type 1} → statement M
 search-valid-spec =

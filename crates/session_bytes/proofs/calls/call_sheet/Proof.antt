@@ -1,7 +1,7 @@
 use mathlib.Core.Path.{◌∙◌}
 use Rattle.tasks.proofs.Answers.{sheet_reading}
 use Rattle.tasks.proofs.Listed.{sheet_refusal_lem}
-use Rattle.session_bytes.proofs.CallLaws.{sheet_refused, space_short, sheet-called}
+use Rattle.session_bytes.proofs.CallLaws.{sheet_refused, space_short, sheet_called}
 use borrow.Author.Rules.{rules}
 use Rattle.session_bytes.proofs.calls.call_sheet.Statement.{statement}
 use Rattle.session_bytes.proofs.calls.call_sheet.Tie as tie
@@ -38,7 +38,7 @@ returns-3 : tie.Need-returns-3
 returns-3 c =
     let h = c.before.before.before.before.before.before.before.before in
     let a = h.before.before.before.args in
-    sheet-called a.sheet.now a.space.now a.call (sheet_reading h.read-sheet.ensures ∙ c.before.before.before.before.before.enum_told.given.1)
+    sheet_called a.sheet.now a.space.now a.call (sheet_reading h.read-sheet.ensures ∙ c.before.before.before.before.before.enum_told.given.1)
     c.before.before.call-table.result c.before.before.before.before.if1.false h.read-sheet.ensures.1 c.before.before.call-table.ensures
 
 pub call-sheet-spec : {M : Type 1} → statement M

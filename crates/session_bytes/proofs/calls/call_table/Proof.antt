@@ -1,7 +1,7 @@
 use mathlib.Core.Path.{refl, ap, ◌∙◌}
 use Rattle.session.specs.Session.{outcome}
 use Rattle.session.proofs.CallLaws.{called_is}
-use Rattle.session_bytes.proofs.CallLaws.{table-told}
+use Rattle.session_bytes.proofs.CallLaws.{table_told}
 use borrow.Author.Rules.{rules}
 use Rattle.session_bytes.proofs.calls.call_table.Statement.{statement}
 use Rattle.session_bytes.proofs.calls.call_table.Tie as tie
@@ -31,7 +31,7 @@ returns : tie.Need-returns
 returns c =
     let h = c.before.before.before.before.before.before.before in
     let a = h.before.before.before.before.args in
-    table-told a.t a.space.now a.call (called_is h.call.ensures ∙ ap (λ x. outcome a.t x a.call) h.before.read-session.ensures) c.before.before.before.before.enum_told.given.1 c.before.before.write-session.ensures
+    table_told a.t a.space.now a.call (called_is h.call.ensures ∙ ap (λ x. outcome a.t x a.call) h.before.read-session.ensures) c.before.before.before.before.enum_told.given.1 c.before.before.write-session.ensures
 
 same-length-2 : tie.Need-same-length-2
 same-length-2 c = search rules
@@ -40,7 +40,7 @@ returns-2 : tie.Need-returns-2
 returns-2 c =
     let h = c.before.before.before in
     let a = h.before.before.before.before.args in
-    table-told a.t a.space.now a.call (called_is h.call.ensures ∙ ap (λ x. outcome a.t x a.call) h.before.read-session.ensures) c.enum-told2.given.1 refl
+    table_told a.t a.space.now a.call (called_is h.call.ensures ∙ ap (λ x. outcome a.t x a.call) h.before.read-session.ensures) c.enum-told2.given.1 refl
 
 same-length-3 : tie.Need-same-length-3
 same-length-3 c = search rules
@@ -49,7 +49,7 @@ returns-3 : tie.Need-returns-3
 returns-3 c =
     let h = c.before.before.before.before in
     let a = h.before.before.before.before.args in
-    table-told a.t a.space.now a.call (called_is h.call.ensures ∙ ap (λ x. outcome a.t x a.call) h.before.read-session.ensures) c.before.answer.given.1 refl
+    table_told a.t a.space.now a.call (called_is h.call.ensures ∙ ap (λ x. outcome a.t x a.call) h.before.read-session.ensures) c.before.answer.given.1 refl
 
 pub call-table-spec : {M : Type 1} → statement M
 call-table-spec =

@@ -1,5 +1,5 @@
 use Rattle.session_bytes.specs.Space.{place}
-use Rattle.session_bytes.proofs.SpaceLaws.{state-put}
+use Rattle.session_bytes.proofs.SpaceLaws.{state_put}
 use native.Mathlib.Omega.{arith}
 use borrow.Author.Rules.{rules}
 use Rattle.session_bytes.proofs.write.put_state.Statement.{statement}
@@ -29,7 +29,7 @@ same_length c = search rules
 returns : tie.Need-returns
 returns c =
     let a = c.before.before.before.before.before.args in
-    state-put a.space.now (place a.j) a.state c.before.before.write-state.ensures.1 (omega (arith, c.before.before.before.before.before.requires))
+    state_put a.space.now (place a.j) a.state c.before.before.write-state.ensures.1 (omega (arith, c.before.before.before.before.before.requires))
 
 pub put-state-spec : {M : Type 1} → statement M
 put-state-spec =

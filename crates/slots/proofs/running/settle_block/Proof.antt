@@ -4,7 +4,7 @@ use mathlib.Core.Path.{◌≡◌, refl, sym, ◌∙◌}
 use mathlib.Core.List.{List}
 use lib.ListN.{length, get_or}
 use Rattle.slots.specs.Running.{block_of, Settling}
-use Rattle.slots.proofs.RunningLaws.{settling-next}
+use Rattle.slots.proofs.RunningLaws.{settling_next}
 use native.Mathlib.Omega.{arith}
 use borrow.Author.Rules.{rules}
 use Rattle.slots.proofs.running.settle_block.Statement.{statement}
@@ -45,7 +45,7 @@ loop-again c =
       slot.auto.0 ∙ l.invariant.2,
       λ ends w₀ bytes same x.
           let y = l.invariant.3 ends w₀ bytes same x in
-          rw slot.ensures (settling-next y (omega arith) (omega (arith, y.len, l.invariant.2)) (sym (same l.i l.invariant.0 h)) r.2 bytes),
+          rw slot.ensures (settling_next y (omega arith) (omega (arith, y.len, l.invariant.2)) (sym (same l.i l.invariant.0 h)) r.2 bytes),
     )
 
 same_length : tie.Need-same-length invariant-loop decreases-loop

@@ -1,7 +1,7 @@
 -- The writer's part is given back to the whole. Assumes nothing.
 use Prim.Native.Nat.{◌+◌, ◌*◌, ◌/◌}
 use Rattle.slots.specs.Layout.{four_bytes}
-use Rattle.slots.proofs.Bytes.{lent-sets, four_length}
+use Rattle.slots.proofs.Bytes.{lent_sets, four_length}
 use native.Mathlib.Omega.{arith}
 use borrow.Author.Rules.{rules}
 use Rattle.slots.proofs.running.settle_slot.Statement.{statement}
@@ -49,7 +49,7 @@ returns c =
     let word = c.before.before.before.before.parent_of in
     let parent = 4096 * a.b + word.result / 1048576 in
     let size = four_length parent in
-    rw (← word.ensures) (lent-sets a.work.now (16 * a.k + 4 * a.i) (four_bytes parent) _ c.before.before.put-parent.ensures (omega arith))
+    rw (← word.ensures) (lent_sets a.work.now (16 * a.k + 4 * a.i) (four_bytes parent) _ c.before.before.put-parent.ensures (omega arith))
 
 pub settle-slot-spec : {M : Type 1} → statement M
 settle-slot-spec =

@@ -4,7 +4,7 @@ use mathlib.Core.List.{[], ◌∷◌}
 use Rattle.tasks.specs.Words.{state_of}
 use Rattle.states.specs.Bytes.{state_bytes}
 use Rattle.slots.specs.Layout.{four_bytes, write_part}
-use Rattle.slots.proofs.Bytes.{lent-three, state_length, four_length}
+use Rattle.slots.proofs.Bytes.{lent_three, state_length, four_length}
 use native.Mathlib.Omega.{arith}
 use borrow.Author.Rules.{rules}
 use Rattle.slots.proofs.write.put_slot.Statement.{statement}
@@ -73,7 +73,7 @@ returns c =
     let a = c.before.before.before.before.before.before.before.before.before.before.before.before.before.args in
     let size = state_length (state_of a.v) in
     let four = four_length a.parent in
-    lent-three a.work.now (16 * a.i) (16 * a.k + 4 * a.i) (20 * a.k + a.i) (state_bytes (state_of a.v)) (four_bytes a.parent) (a.mask ∷ [])
+    lent_three a.work.now (16 * a.i) (16 * a.k + 4 * a.i) (20 * a.k + a.i) (state_bytes (state_of a.v)) (four_bytes a.parent) (a.mask ∷ [])
     c.before.before.before.before.before.before.before.before.before.before.put-state.ensures c.before.before.before.before.before.before.put-parent.ensures c.before.before.put-mask.ensures (omega arith) (omega arith) (omega arith)
 
 pub put-slot-spec : {M : Type 1} → statement M

@@ -6,7 +6,7 @@ use lib.Seq.{sets}
 use Rattle.tasks.specs.Words.{state_of}
 use Rattle.tasks.proofs.InWords.{work_word, gap_word}
 use Rattle.states.specs.Bytes.{twos, state_bytes}
-use Rattle.slots.proofs.WriteLaws.{put-turn}
+use Rattle.slots.proofs.WriteLaws.{put_turn}
 use native.Mathlib.Omega.{arith}
 use borrow.Author.Rules.{rules}
 use Rattle.slots.proofs.write.put_state.Statement.{statement}
@@ -65,7 +65,7 @@ loop-again c =
     let l = c.before.before.before in
     let v = l.before.before.args.t2 in
     let k = l.loop.k in
-    (omega arith, rw (c.before.work_in.ensures ∙ sym (work_word v k (omega arith)), c.gap-in.ensures ∙ sym (gap_word v k (omega arith))) (put-turn _ _ _ _ _ (omega arith) l.loop.invariant.1), simp length-set (omega arith))
+    (omega arith, rw (c.before.work_in.ensures ∙ sym (work_word v k (omega arith)), c.gap-in.ensures ∙ sym (gap_word v k (omega arith))) (put_turn _ _ _ _ _ (omega arith) l.loop.invariant.1), simp length-set (omega arith))
 
 same_length : tie.Need-same-length invariant-loop decreases-loop
 same_length c = c.before.loop.invariant.2

@@ -1,6 +1,6 @@
 -- A refused sheet, or the table of an accepted one, whose sheet is the same bytes. Assumes nothing.
 use Rattle.tasks.proofs.Answers.{sheet_reading}
-use Rattle.tasks.proofs.Again.{copy_refused, copy-accepted}
+use Rattle.tasks.proofs.Again.{copy_refused, copy_accepted}
 use Rattle.tasks.specs.Sheet.{write_answer, write_out}
 use mathlib.Core.Path.{ap, ◌∙◌}
 use native.Mathlib.Omega.{arith}
@@ -17,5 +17,5 @@ returns-in-Accepted c =
     let a = c.args in
     let read = c.read_sheet-sheet.ensures in
     let t-is = read.1 in
-    let w = copy-accepted a.s.now a.out.now (λ i. omega (arith, c.shared_slice_known-1.given i)) (sheet_reading read ∙ c.in-Accepted.is) in
+    let w = copy_accepted a.s.now a.out.now (λ i. omega (arith, c.shared_slice_known-1.given i)) (sheet_reading read ∙ c.in-Accepted.is) in
     (c.write_sheet.ensures.0 ∙ ap (λ t. write_answer t a.out.now) t-is ∙ w.0, c.write_sheet.ensures.1 ∙ ap (λ t. write_out t a.out.now) t-is ∙ w.1)

@@ -4,7 +4,7 @@ use mathlib.Core.Bool.{false}
 use lib.ListN.{length, drop}
 use Rattle.tasks.specs.State.{improper}
 use Rattle.tasks.specs.Replay.{played}
-use Rattle.tasks.proofs.Played.{played-refused, played_missed, played-next, played-end}
+use Rattle.tasks.proofs.Played.{played_refused, played_missed, played_next, played_end}
 use native.Mathlib.Omega.{arith}
 use borrow.Author.Rules.{rules}
 use Rattle.tasks.proofs.play.play.Given as goal

@@ -27,15 +27,15 @@ module _ (n i : ℕ) (t : Table) (s : List ℕ) (at : ℕ) where
   tasks_done : n ≤ i → length s ≤ at → tasks_from (n - i) i t s at ≡ accepted_as t
   tasks_done h l = rw (tasks_end h, le-ltb at (length s) l)
 
-tasks-turn :
+tasks_turn :
     (n i : ℕ) (t : Table) (s : List ℕ) (at : ℕ) (task : Task) (next : ℕ) → i < n → task_at s at ≡ TaskRead.Read task next
     → tasks_from (n - i) i t s at ≡ tasks_from (n - (i + 1)) (i + 1) (with_task t i task) s next
-tasks-turn n i t s at task next h e =
+tasks_turn n i t s at task next h e =
     tasks_left n i t s at h ∙ ap (λ r. after_task r (λ task next. tasks_from (n - (i + 1)) (i + 1) (with_task t i task) s next)) e
 
-tasks-refused :
+tasks_refused :
     (n i : ℕ) (t : Table) (s : List ℕ) (at r : ℕ) → i < n → task_at s at ≡ TaskRead.Refused r → tasks_from (n - i) i t s at ≡ refused_with r
-tasks-refused n i t s at r h e =
+tasks_refused n i t s at r h e =
     tasks_left n i t s at h ∙ ap (λ r. after_task r (λ task next. tasks_from (n - (i + 1)) (i + 1) (with_task t i task) s next)) e
 
 pub loop-i-init : goal.loop-i-init
@@ -48,7 +48,7 @@ pub returns-in-Refused : goal.returns-in-Refused
 unfolding from_tasks
 returns-in-Refused c =
     let e = sym c.read_task.ensures ∙ c.in-Refused.is in
-    c.refused.ensures ∙ sym (rw c.empty_table-t.ensures at (c.loop-i.invariant.2 ∙ tasks-refused _ c.loop-i.i _ _ _ _ c.loop-i-test.true e))
+    c.refused.ensures ∙ sym (rw c.empty_table-t.ensures at (c.loop-i.invariant.2 ∙ tasks_refused _ c.loop-i.i _ _ _ _ c.loop-i-test.true e))
 
 pub loop-i-smaller : goal.loop-i-smaller
 loop-i-smaller c = omega (arith, c.loop-i-test.true)
@@ -56,7 +56,7 @@ loop-i-smaller c = omega (arith, c.loop-i-test.true)
 pub loop-i-preserved : goal.loop-i-preserved
 loop-i-preserved c =
     let e = sym c.read_task.ensures ∙ c.in-Read.is in
-    (omega (arith, c.loop-i.invariant.0, c.loop-i-test.true), c.loop-i.invariant.1, c.loop-i.invariant.2 ∙ rw c.with_task-t.ensures (tasks-turn _ c.loop-i.i _ _ _ _ _ c.loop-i-test.true e))
+    (omega (arith, c.loop-i.invariant.0, c.loop-i-test.true), c.loop-i.invariant.1, c.loop-i.invariant.2 ∙ rw c.with_task-t.ensures (tasks_turn _ c.loop-i.i _ _ _ _ _ c.loop-i-test.true e))
 
 pub returns-then-at-s : goal.returns-then-at-s
 unfolding from_tasks

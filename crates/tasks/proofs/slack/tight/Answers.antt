@@ -5,7 +5,7 @@ use Rattle.lists.specs.Lists.{any}
 use Rattle.tasks.specs.Tight.{tight_at, tight}
 use Rattle.tasks.specs.Words.{state_of}
 use Rattle.lists.proofs.Turns.{any_none, any_turn, any_end}
-use Rattle.tasks.proofs.NoMiss.{tight-word}
+use Rattle.tasks.proofs.NoMiss.{tight_word}
 use borrow.Author.Rules.{rules}
 use Rattle.tasks.proofs.slack.tight.Goals as goal
 
@@ -14,7 +14,7 @@ loop-i-init c = (omega arith, any_none (tight_at c.args.t (state_of c.args.v)))
 
 pub loop-i-preserved : goal.loop-i-preserved
 loop-i-preserved c =
-    (omega arith, any_turn (tight_at c.args.t (state_of c.args.v)) c.loop-i.i c.loop-i.invariant.1 (rw (c.tight_job-new.ensures, c.tight_job-has.ensures, c.work_in.ensures, c.gap_in-p.ensures) (tight-word c.args.t c.args.v c.loop-i.i (omega arith))))
+    (omega arith, any_turn (tight_at c.args.t (state_of c.args.v)) c.loop-i.i c.loop-i.invariant.1 (rw (c.tight_job-new.ensures, c.tight_job-has.ensures, c.work_in.ensures, c.gap_in-p.ensures) (tight_word c.args.t c.args.v c.loop-i.i (omega arith))))
 
 pub returns : goal.returns
 unfolding tight

@@ -6,7 +6,7 @@ use Rattle.tasks.specs.State.{late}
 use Rattle.tasks.specs.Tick.{missed}
 use Rattle.tasks.specs.Words.{state_of}
 use Rattle.lists.proofs.Turns.{any_none, any_turn, any_end}
-use Rattle.tasks.proofs.InWords.{late-word}
+use Rattle.tasks.proofs.InWords.{late_word}
 use borrow.Author.Rules.{rules}
 use Rattle.tasks.proofs.words.misses.Goals as goal
 
@@ -15,7 +15,7 @@ loop-i-init c = (omega arith, any_none (late c.args.t (state_of c.args.v)))
 
 pub loop-i-preserved : goal.loop-i-preserved
 loop-i-preserved c =
-    (omega arith, any_turn (late c.args.t (state_of c.args.v)) c.loop-i.i c.loop-i.invariant.1 (rw (c.late_job-found.ensures, c.gap_in.ensures, c.work_in-c.ensures) (late-word c.args.v c.loop-i.i (omega arith) c.args.t)))
+    (omega arith, any_turn (late c.args.t (state_of c.args.v)) c.loop-i.i c.loop-i.invariant.1 (rw (c.late_job-found.ensures, c.gap_in.ensures, c.work_in-c.ensures) (late_word c.args.v c.loop-i.i (omega arith) c.args.t)))
 
 pub returns : goal.returns
 unfolding missed

@@ -6,7 +6,7 @@ use Rattle.tasks.specs.State.{late}
 use Rattle.tasks.specs.Tick.{missed}
 use Rattle.tasks.specs.Words.{state_of}
 use Rattle.lists.proofs.Turns.{any_none, any_turn, any_end}
-use Rattle.tasks.proofs.InWords.{late-word}
+use Rattle.tasks.proofs.InWords.{late_word}
 use borrow.Author.Rules.{rules}
 use Rattle.tasks.proofs.words.misses.Given as goal
 

@@ -3,7 +3,7 @@ use Rattle.tasks.specs.declared.table.Table.{Table}
 use mathlib.Core.List.{List}
 use Prim.Native.Nat.{ℕ}
 use native.Mathlib.Nat.{zero-add}
-use Rattle.tasks.proofs.Stores.{storing_start, storing-step, storing_room, storing_left, storing_last}
+use Rattle.tasks.proofs.Stores.{storing_start, storing_step, storing_room, storing_left, storing_last}
 use Rattle.tasks.specs.Sheet.{tasks_bytes, sheet_bytes}
 use Rattle.tasks.specs.Number.{number_bytes}
 use mathlib.Core.List.{◌++◌}
@@ -35,7 +35,7 @@ unfolding sheet_bytes
 put_number-b-requires c =
     let t = c.args.t in
     let p = storing_start c.args.out.now 0 (sheet_bytes t) (rw zero-add c.requires.1) in
-    let q = storing-step (number_bytes 3) (policy_on t) p c.put_number-a.ensures.1 c.put_number-a.ensures.0 in
+    let q = storing_step (number_bytes 3) (policy_on t) p c.put_number-a.ensures.1 c.put_number-a.ensures.0 in
     storing_room (number_bytes t.policy) (processors_on t) q
 
 pub put_number-c-requires : goal.put_number-c-requires
@@ -43,8 +43,8 @@ unfolding sheet_bytes
 put_number-c-requires c =
     let t = c.args.t in
     let p = storing_start c.args.out.now 0 (sheet_bytes t) (rw zero-add c.requires.1) in
-    let q = storing-step (number_bytes 3) (policy_on t) p c.put_number-a.ensures.1 c.put_number-a.ensures.0 in
-    let r = storing-step (number_bytes t.policy) (processors_on t) q c.put_number-b.ensures.1 c.put_number-b.ensures.0 in
+    let q = storing_step (number_bytes 3) (policy_on t) p c.put_number-a.ensures.1 c.put_number-a.ensures.0 in
+    let r = storing_step (number_bytes t.policy) (processors_on t) q c.put_number-b.ensures.1 c.put_number-b.ensures.0 in
     storing_room (number_bytes t.m) (count_on t) r
 
 pub put_number-d-requires : goal.put_number-d-requires
@@ -52,9 +52,9 @@ unfolding sheet_bytes
 put_number-d-requires c =
     let t = c.args.t in
     let p = storing_start c.args.out.now 0 (sheet_bytes t) (rw zero-add c.requires.1) in
-    let q = storing-step (number_bytes 3) (policy_on t) p c.put_number-a.ensures.1 c.put_number-a.ensures.0 in
-    let r = storing-step (number_bytes t.policy) (processors_on t) q c.put_number-b.ensures.1 c.put_number-b.ensures.0 in
-    let u = storing-step (number_bytes t.m) (count_on t) r c.put_number-c.ensures.1 c.put_number-c.ensures.0 in
+    let q = storing_step (number_bytes 3) (policy_on t) p c.put_number-a.ensures.1 c.put_number-a.ensures.0 in
+    let r = storing_step (number_bytes t.policy) (processors_on t) q c.put_number-b.ensures.1 c.put_number-b.ensures.0 in
+    let u = storing_step (number_bytes t.m) (count_on t) r c.put_number-c.ensures.1 c.put_number-c.ensures.0 in
     storing_room (number_bytes t.n) (tasks_on t) u
 
 pub put_tasks-requires : goal.put_tasks-requires
@@ -62,10 +62,10 @@ unfolding sheet_bytes
 put_tasks-requires c =
     let t = c.args.t in
     let p = storing_start c.args.out.now 0 (sheet_bytes t) (rw zero-add c.requires.1) in
-    let q = storing-step (number_bytes 3) (policy_on t) p c.put_number-a.ensures.1 c.put_number-a.ensures.0 in
-    let r = storing-step (number_bytes t.policy) (processors_on t) q c.put_number-b.ensures.1 c.put_number-b.ensures.0 in
-    let u = storing-step (number_bytes t.m) (count_on t) r c.put_number-c.ensures.1 c.put_number-c.ensures.0 in
-    let v = storing-step (number_bytes t.n) (tasks_on t) u c.put_number-d.ensures.1 c.put_number-d.ensures.0 in
+    let q = storing_step (number_bytes 3) (policy_on t) p c.put_number-a.ensures.1 c.put_number-a.ensures.0 in
+    let r = storing_step (number_bytes t.policy) (processors_on t) q c.put_number-b.ensures.1 c.put_number-b.ensures.0 in
+    let u = storing_step (number_bytes t.m) (count_on t) r c.put_number-c.ensures.1 c.put_number-c.ensures.0 in
+    let v = storing_step (number_bytes t.n) (tasks_on t) u c.put_number-d.ensures.1 c.put_number-d.ensures.0 in
     (c.requires.0, storing_left (tasks_on t) v)
 
 pub returns : goal.returns
@@ -73,8 +73,8 @@ unfolding sheet_bytes
 returns c =
     let t = c.args.t in
     let p = storing_start c.args.out.now 0 (sheet_bytes t) (rw zero-add c.requires.1) in
-    let q = storing-step (number_bytes 3) (policy_on t) p c.put_number-a.ensures.1 c.put_number-a.ensures.0 in
-    let r = storing-step (number_bytes t.policy) (processors_on t) q c.put_number-b.ensures.1 c.put_number-b.ensures.0 in
-    let u = storing-step (number_bytes t.m) (count_on t) r c.put_number-c.ensures.1 c.put_number-c.ensures.0 in
-    let v = storing-step (number_bytes t.n) (tasks_on t) u c.put_number-d.ensures.1 c.put_number-d.ensures.0 in
+    let q = storing_step (number_bytes 3) (policy_on t) p c.put_number-a.ensures.1 c.put_number-a.ensures.0 in
+    let r = storing_step (number_bytes t.policy) (processors_on t) q c.put_number-b.ensures.1 c.put_number-b.ensures.0 in
+    let u = storing_step (number_bytes t.m) (count_on t) r c.put_number-c.ensures.1 c.put_number-c.ensures.0 in
+    let v = storing_step (number_bytes t.n) (tasks_on t) u c.put_number-d.ensures.1 c.put_number-d.ensures.0 in
     storing_last (tasks_on t) v c.put_tasks.ensures

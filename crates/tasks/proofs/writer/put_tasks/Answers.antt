@@ -1,4 +1,4 @@
-use Rattle.tasks.proofs.Stores.{Storing, storing_start, storing-step, storing_room, storing_end}
+use Rattle.tasks.proofs.Stores.{Storing, storing_start, storing_step, storing_room, storing_end}
 use Rattle.tasks.proofs.Sheets.{tasks_bytes_lem, tasks_none}
 use Rattle.tasks.specs.Sheet.{task_bytes, tasks_bytes}
 use mathlib.Core.List.{◌++◌}
@@ -32,7 +32,7 @@ loop-i-preserved c =
     let a = c.args.t in
     let e = tasks_bytes_lem a a.n c.loop-i.i c.loop-i-test.true in
     let s : Storing c.args.out.now c.args.from (tasks_bytes a a.n 0) c.loop-i.out c.loop-i.at (task_bytes a c.loop-i.i ++ tasks_bytes a (a.n - (c.loop-i.i + 1)) (c.loop-i.i + 1)) = rw e at c.loop-i.invariant.2 in
-    (omega arith, c.loop-i.invariant.1, storing-step (task_bytes a c.loop-i.i) (tasks_bytes a (a.n - (c.loop-i.i + 1)) (c.loop-i.i + 1)) s c.put_task-at.ensures.1 c.put_task-at.ensures.0)
+    (omega arith, c.loop-i.invariant.1, storing_step (task_bytes a c.loop-i.i) (tasks_bytes a (a.n - (c.loop-i.i + 1)) (c.loop-i.i + 1)) s c.put_task-at.ensures.1 c.put_task-at.ensures.0)
 
 pub shape_of-out : goal.shape_of-out
 shape_of-out c = c.loop-i.invariant.2.len

@@ -1,5 +1,5 @@
 -- The invariant: what is left to store, stored from the present place, is the whole. Assumes nothing.
-use Rattle.tasks.proofs.Stores.{Storing, storing_start, storing-step, storing_room, storing_end}
+use Rattle.tasks.proofs.Stores.{Storing, storing_start, storing_step, storing_room, storing_end}
 use Rattle.tasks.proofs.Sheets.{tasks_bytes_lem, tasks_none}
 use Rattle.tasks.specs.Sheet.{task_bytes, tasks_bytes}
 use mathlib.Core.List.{◌++◌}

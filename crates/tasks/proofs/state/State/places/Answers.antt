@@ -4,7 +4,7 @@ use Rattle.lists.specs.Lists.{eight}
 use Rattle.lists.proofs.Fill.{Filled, filled_start, filled_store, filled_end}
 use Rattle.tasks.specs.Tick.{key, age}
 use Rattle.tasks.specs.Places.{place, earlier_in}
-use Rattle.tasks.proofs.Place.{earlier-counted}
+use Rattle.tasks.proofs.Place.{earlier_counted}
 use native.Mathlib.Omega.{arith}
 use borrow.Author.Rules.{rules}
 use Rattle.tasks.proofs.state.State.places.Goals as goal
@@ -15,13 +15,13 @@ loop-i-init c = (omega arith, rw (c.count_earlier-earlier.ensures, c.ages-ages.e
 pub place_of-requires : goal.place_of-requires
 place_of-requires c =
     let h = c.loop-i in
-    omega (arith, (earlier-counted _ _ h.invariant.1 h.i (omega arith)).1)
+    omega (arith, (earlier_counted _ _ h.invariant.1 h.i (omega arith)).1)
 
 pub loop-i-preserved : goal.loop-i-preserved
 unfolding place
 loop-i-preserved c =
     let h = c.loop-i in
-    let is = (earlier-counted _ _ h.invariant.1 h.i (omega arith)).0 in
+    let is = (earlier_counted _ _ h.invariant.1 h.i (omega arith)).0 in
     (omega arith, h.invariant.1, filled_store h.invariant.2 (omega arith) (c.place_of.ensures ∙ rw (is, c.keeps.ensures)))
 
 pub returns : goal.returns

@@ -5,7 +5,7 @@ use Rattle.lists.specs.Lists.{eight}
 use Rattle.lists.proofs.Fill.{Filled, filled_start, filled_store, filled_end}
 use Rattle.tasks.specs.Tick.{key, age}
 use Rattle.tasks.specs.Places.{place, earlier_in}
-use Rattle.tasks.proofs.Place.{earlier-counted}
+use Rattle.tasks.proofs.Place.{earlier_counted}
 use native.Mathlib.Omega.{arith}
 use borrow.Author.Rules.{rules}
 use Rattle.tasks.proofs.state.State.places.Given as goal

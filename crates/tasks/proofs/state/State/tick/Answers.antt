@@ -3,7 +3,7 @@ use mathlib.Core.Path.{sym, ap, ◌∙◌}
 use Rattle.tasks.specs.Tick.{refusal, answered}
 use Rattle.tasks.specs.declared.tick.TickAnswer.TheVariants.{Next, Missed, Refused}
 use Rattle.tasks.proofs.Answers.{tick_told}
-use Rattle.tasks.proofs.Answered.{ticked_refused, ticked-missed, ticked-next}
+use Rattle.tasks.proofs.Answered.{ticked_refused, ticked_missed, ticked_next}
 use borrow.Author.Rules.{rules}
 use Rattle.tasks.proofs.state.State.tick.Goals as goal
 
@@ -20,7 +20,7 @@ returns-then-missed c =
     let e = c.advance-next.ensures in
     let none = rw c.refusal-why.ensures at c.if-why-gt0.false in
     let miss = sym c.missed.ensures ∙ c.if-missed.true in
-    tick_told (c.answered-then-missed.ensures ∙ ap (answered Missed) e ∙ ticked-missed a.t a.self a.mask none (rw e at miss))
+    tick_told (c.answered-then-missed.ensures ∙ ap (answered Missed) e ∙ ticked_missed a.t a.self a.mask none (rw e at miss))
 
 pub returns : goal.returns
 returns c =
@@ -28,4 +28,4 @@ returns c =
     let e = c.advance-next.ensures in
     let none = rw c.refusal-why.ensures at c.if-why-gt0.false in
     let miss = sym c.missed.ensures ∙ c.if-missed.false in
-    tick_told (c.answered-2.ensures ∙ ap (answered Next) e ∙ ticked-next a.t a.self a.mask none (rw e at miss))
+    tick_told (c.answered-2.ensures ∙ ap (answered Next) e ∙ ticked_next a.t a.self a.mask none (rw e at miss))

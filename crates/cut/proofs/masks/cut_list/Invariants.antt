@@ -1,0 +1,13 @@
+-- The invariant: the first i masks are cut. Assumes nothing.
+use Prim.Native.Nat.{◌-◌, ◌≤◌}
+use lib.ListN.{length, length-set}
+use native.Mathlib.Omega.{arith}
+use Rattle.cut.proofs.MaskLaws.{Cutting, cutting_start, cutting_step, cutting_end}
+use borrow.Author.Rules.{rules}
+use Rattle.cut.proofs.masks.cut_list.Given as goal
+
+abbrev pub invariant-loop-i : goal.invariant-loop-i
+invariant-loop-i l = (l.i ≤ length l.masks) × Cutting l.k l.initial.masks l.masks l.i
+
+abbrev pub decreases-loop-i : goal.decreases-loop-i
+decreases-loop-i l = length l.masks - l.i

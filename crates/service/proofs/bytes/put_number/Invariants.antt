@@ -1,0 +1,16 @@
+-- The invariant: the k lowest bytes are written. Assumes nothing.
+use Prim.Native.Nat.{suc, ◌+◌, ◌-◌, ◌≤◌}
+use mathlib.Core.Path.{◌≡◌}
+use native.Mathlib.Omega.{arith}
+use native.Mathlib.Nat.{add-zero}
+use Rattle.tasks.proofs.Stores.{Storing, storing_start, storing_end}
+use Rattle.service.specs.Bytes.{low_first}
+use Rattle.service.proofs.ByteLaws.{low_length, low_turn}
+use borrow.Author.Rules.{rules}
+use Rattle.service.proofs.bytes.put_number.Given as goal
+
+abbrev pub invariant-loop-k : goal.invariant-loop-k
+invariant-loop-k l = (l.k ≤ 8) × Storing l.initial.out l.at (low_first 8 l.n) l.out (l.at + l.k) (low_first (8 - l.k) l.rest)
+
+abbrev pub decreases-loop-k : goal.decreases-loop-k
+decreases-loop-k l = 8 - l.k

@@ -1,0 +1,16 @@
+-- The invariant: the rows of the first i tasks are written. Assumes nothing.
+use Prim.Native.Nat.{◌-◌, ◌≤◌}
+use mathlib.Core.Path.{◌≡◌, refl, ◌∙◌}
+use lib.ListN.{length}
+use lib.Seq.{sets, length-sets}
+use Rattle.service.specs.Bytes.{rows_of}
+use Rattle.service.proofs.ByteLaws.{rows_none, rows_turn}
+use native.Mathlib.Omega.{arith}
+use borrow.Author.Rules.{rules}
+use Rattle.service.proofs.bytes.put_rows.Given as goal
+
+abbrev pub invariant-loop-i : goal.invariant-loop-i
+invariant-loop-i l = (l.i ≤ 8) × (192 ≤ length l.initial.out) × (length l.out ≡ length l.initial.out) × (l.out ≡ sets l.initial.out 0 (rows_of l.x l.i))
+
+abbrev pub decreases-loop-i : goal.decreases-loop-i
+decreases-loop-i l = 8 - l.i

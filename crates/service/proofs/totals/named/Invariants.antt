@@ -1,0 +1,15 @@
+-- The invariant: the bits of the first i tasks are read. Assumes nothing.
+use Prim.Native.Nat.{◌-◌, ◌≤◌}
+use mathlib.Core.Path.{refl}
+use mathlib.Core.Bool.{false}
+use native.Mathlib.Omega.{arith}
+use Rattle.lists.proofs.Fill.{Filled, filled_start, filled_store, filled_end}
+use Rattle.tasks.specs.Tick.{bit}
+use borrow.Author.Rules.{rules}
+use Rattle.service.proofs.totals.named.Given as goal
+
+abbrev pub invariant-loop-i : goal.invariant-loop-i
+invariant-loop-i l = (l.i ≤ 8) × Filled false (bit l.mask) l.named l.i
+
+abbrev pub decreases-loop-i : goal.decreases-loop-i
+decreases-loop-i l = 8 - l.i

@@ -1,0 +1,15 @@
+-- The invariant: the first i bytes are widened. Assumes nothing.
+use Prim.Native.Nat.{◌-◌, ◌≤◌}
+use mathlib.Core.Path.{◌≡◌, refl, sym, ◌∙◌}
+use lib.ListN.{length, get_or}
+use lib.Seq.{ext_get_or}
+use native.Mathlib.Omega.{arith}
+use Rattle.lists.proofs.Fill.{Filled, filled_start, filled_store}
+use borrow.Author.Rules.{rules}
+use Rattle.service.proofs.totals.widened.Given as goal
+
+abbrev pub invariant-loop-i : goal.invariant-loop-i
+invariant-loop-i l = (l.i ≤ 8) × (length l.c ≡ 8) × Filled 0 (λ j. get_or l.c j 0) l.wide l.i
+
+abbrev pub decreases-loop-i : goal.decreases-loop-i
+decreases-loop-i l = 8 - l.i

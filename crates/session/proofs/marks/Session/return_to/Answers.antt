@@ -1,0 +1,9 @@
+use Rattle.session.specs.Session.{returned}
+use Rattle.session.proofs.CallLaws.{called_told}
+use borrow.Author.Rules.{rules}
+use Rattle.session.proofs.marks.Session.return_to.Goals as goal
+
+pub returns : goal.returns
+unfolding returned
+returns c =
+    called_told (rw (← c.return_refusal-why.ensures, ← c.mark-mark.ensures, ← c.at_mark-after.ensures) c.unless_refused.ensures)

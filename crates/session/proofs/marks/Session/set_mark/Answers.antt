@@ -1,0 +1,8 @@
+use Rattle.session.specs.Session.{mark_set}
+use Rattle.session.proofs.CallLaws.{called_told}
+use borrow.Author.Rules.{rules}
+use Rattle.session.proofs.marks.Session.set_mark.Goals as goal
+
+pub returns : goal.returns
+unfolding mark_set
+returns c = called_told (rw (← c.set_refusal-why.ensures, ← c.marked-after.ensures) c.unless_refused.ensures)

@@ -1,0 +1,8 @@
+-- The full mask is ticked. Assumes nothing.
+use Rattle.states.specs.Miss.{full_by}
+use Rattle.std.proofs.Common.{rules}
+use Rattle.states.proofs.miss.full_misses.Goals as goal
+
+pub returns : goal.returns
+unfolding full_by
+returns c = rw (c.after-full.ensures, c.prepare-state.ensures, c.free-free.ensures) at c.misses.ensures

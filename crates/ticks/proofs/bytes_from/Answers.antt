@@ -1,0 +1,12 @@
+use Rattle.std.proofs.Common.{◌+◌, ◌-◌, ◌≤◌, get_or, refl, arith, rules}
+use Rattle.lists.proofs.Fill.{Filled, filled_start, filled_store, filled_end}
+use Rattle.ticks.proofs.bytes_from.Goals as goal
+
+pub loop-i-init : goal.loop-i-init
+loop-i-init c = (omega arith, filled_start refl)
+
+pub loop-i-preserved : goal.loop-i-preserved
+loop-i-preserved c = (omega arith, filled_store c.loop-i.invariant.1 (omega arith) refl)
+
+pub returns : goal.returns
+returns c = filled_end c.loop-i.invariant.1 c.loop-i-test.false

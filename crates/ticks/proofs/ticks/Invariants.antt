@@ -1,0 +1,10 @@
+use Rattle.std.proofs.Common.{◌≡◌, ℕ, zero, suc, ◌-◌, ◌<◌, ◌≤◌, refl, arith, rules, lt-ltb}
+use Rattle.ticks.specs.Ticks.{tick_of, sum, ticks_sum}
+use Rattle.ticks.proofs.Sums.{pairs_room, sum_start, sum_turn, sum_end}
+use Rattle.ticks.proofs.ticks.Given as goal
+
+abbrev pub invariant-loop-k : goal.invariant-loop-k
+invariant-loop-k l = (l.k ≤ l.n) × (l.sum ≡ sum l.t l.states l.masks l.k)
+
+abbrev pub decreases-loop-k : goal.decreases-loop-k
+decreases-loop-k l = l.n - l.k
