@@ -28,12 +28,11 @@ unfolding raised_answer
 returns-in-Refused c =
     let a = c.args in
     let p = c.play_on-played.ensures in
-    let r = c.answer-1.given in
-    replay_told (after_answer a.t a.s a a.masks.now (replay_is (p.0, p.1)) (rw r.1 (ap (Refused r.0.0) c.raised_tick.ensures)))
+    replay_told (after_answer a.t a.s a.before a.masks.now (replay_is (p.0, p.1)) (rw c.in-Refused.is (ap (Refused c.in-Refused.r) c.raised_tick.ensures)))
 
 pub returns-in-Played : goal.returns-in-Played
 unfolding raised_answer
 returns-in-Played c =
     let a = c.args in
     let p = c.play_on-played.ensures in
-    replay_told (after_answer a.t a.s a a.masks.now (replay_is (p.0, p.1)) (rw c.in-Played.is (ap Played c.raised_outcome.ensures)))
+    replay_told (after_answer a.t a.s a.before a.masks.now (replay_is (p.0, p.1)) (rw c.in-Played.is (ap Played c.raised_outcome.ensures)))

@@ -6,8 +6,6 @@ use native.Mathlib.Omega.{arith}
 use borrow.Author.Rules.{rules}
 use Rattle.service.proofs.play.play.Goals as goal
 
-)
-
 pub loop-i-init : goal.loop-i-init
 loop-i-init c = (omega arith, rw c.start-s.ensures (playing_start _ _))
 
@@ -39,6 +37,7 @@ loop-i-preserved c = (
   playing_next _ _ c.requires c.loop-i.invariant.1 c.loop-i-test.true (sym c.illegal.ensures ∙ c.if-illegal.false)
       c.named.ensures c.raised-more.ensures c.release-released.ensures c.choose-run.ensures c.raised-longer.ensures c.run-next.ensures
       (sym c.missed.ensures ∙ c.if-missed.false),
+)
 
 pub returns : goal.returns
 returns c =

@@ -11,4 +11,4 @@ returns c =
     let a = c.args in
     let r = c.wrapping_sub_u8 in
     ap (λ x. bit_and x a.free)
-    (wrapped r.result a.free a.m (omega (arith, r.type_inv)) (omega arith) (omega arith) r.ensures)
+    (wrapped r.result a.free a.m (omega (arith, r.type_inv)) (omega arith) (omega arith) r.ensures.value)
