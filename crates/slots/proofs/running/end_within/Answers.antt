@@ -1,0 +1,7 @@
+-- The end, or n. Assumes nothing.
+use native.Mathlib.Omega.{arith}
+use borrow.Author.Rules.{rules}
+use Rattle.slots.proofs.running.end_within.Goals as goal
+
+pub overflow_cast-end : goal.overflow_cast-end
+overflow_cast-end c = omega (arith, c.shared_slice_known-1.given c.args.b)
