@@ -1,0 +1,7 @@
+use Prim.Native.Nat.{◌-◌, ◌≤◌}
+use borrow.Author.Rules.{rules}
+use Rattle.closed.proofs.cells.probe.Goals as goal
+
+pub returns-then-names : goal.returns-then-names
+returns-then-names c =
+    rw c.if-names.true at c.names.ensures

@@ -1,0 +1,46 @@
+-- Sound states, the start state, and every pair inside. Assumes nothing.
+use mathlib.Core.Path.{◌≡◌}
+use mathlib.Core.Bool.{true, false}
+use borrow.Author.Tests.{not-true, not-false}
+use Rattle.tasks.specs.State.{start}
+use Rattle.tasks.specs.Words.{state_of}
+use Rattle.states.proofs.ColumnLaws.{held, held_key}
+use Rattle.closed.proofs.FileLaws.{start_bytes}
+use Rattle.closed.proofs.AnswerLaws.{closed_is}
+use borrow.Author.Rules.{rules}
+use Rattle.closed.proofs.check.closed_with.Goals as goal
+
+pub all_sound-requires : goal.all_sound-requires
+all_sound-requires c =
+    (c.requires.0, c.ticker-ticker.ensures)
+
+pub returns-then-not-all_sound : goal.returns-then-not-all_sound
+returns-then-not-all_sound c =
+    let none : c.All-sound.result ≡ false = not-true c.All-sound.result c.if-not-all_sound.true in
+    rw none at c.All-sound.ensures
+
+pub scan-requires : goal.scan-requires
+scan-requires c =
+    c.requires.0.whole
+
+pub returns-then-not-scan : goal.returns-then-not-scan
+unfolding state_of
+returns-then-not-scan c =
+    let none : c.scan.result ≡ false = not-true c.scan.result c.if-not-scan.true in
+    let absent = rw none at c.scan.ensures in
+    λ x. absent (rw (c.key_of-start.ensures, c.requires.0.is) (held_key c.args.file.now start x.begins))
+
+pub all_inside-requires : goal.all_inside-requires
+all_inside-requires c =
+    let yes : c.All-sound.result ≡ true = not-false c.All-sound.result c.if-not-all_sound.false in
+    (record { given = c.requires.0; made = c.ticker-ticker.ensures; sound = rw yes at c.All-sound.ensures; some = c.requires.1 }, c.split_of.ensures.0, c.split_of.ensures.1)
+
+pub returns : goal.returns
+unfolding state_of
+returns c =
+    let sound : c.All-sound.result ≡ true = not-false c.All-sound.result c.if-not-all_sound.false in
+    let found : c.scan.result ≡ true = not-false c.scan.result c.if-not-scan.false in
+    let h = rw found at c.scan.ensures in
+    closed_is c.args.t c.args.file.now c.all_inside.result c.requires.0.valid (rw sound at c.All-sound.ensures)
+    (rw (← c.requires.0.is) (held c.args.file.now start c.shared_slice_known-1.given start_bytes (rw c.key_of-start.ensures at h)))
+    c.all_inside.ensures

@@ -1,0 +1,17 @@
+-- The invariant: the pairs of the bands passed lead to states of the file. Assumes nothing.
+use Prim.Native.Nat.{◌+◌, ◌-◌}
+use mathlib.Core.Path.{◌≡◌, refl, ◌∙◌}
+use mathlib.Core.Bool.{true, false}
+use borrow.Author.Tests.{not-true, not-false}
+use lib.ListN.{length}
+use Rattle.closed.specs.Keeping.{Inside}
+use Rattle.closed.proofs.InsideLaws.{BandsTo, bands_start, bands_next, bands_end}
+use Rattle.closed.proofs.RowLaws.{ready_cells}
+use native.Mathlib.Omega.{arith}
+use Rattle.closed.proofs.passes.all_inside.Given as goal
+
+abbrev pub invariant-loop-low : goal.invariant-loop-low
+invariant-loop-low l = (length l.cells ≡ length l.initial.cells) × Inside l.t l.file (BandsTo l.t l.file l.split l.low)
+
+abbrev pub decreases-loop-low : goal.decreases-loop-low
+decreases-loop-low l = l.split.top + 1 - l.low

@@ -1,0 +1,61 @@
+use Prim.Native.Nat.{◌-◌, ◌≤◌}
+use mathlib.Core.Path.{◌≡◌, refl, ◌∙◌}
+use mathlib.Core.Bool.{true, false}
+use borrow.Author.Tests.{not-true, not-false}
+use lib.ListN.{length}
+use Rattle.closed.specs.Keeping.{Inside}
+use Rattle.closed.proofs.InsideLaws.{ClassesTo, classes_start, classes_next, classes_end}
+use Rattle.closed.proofs.RowLaws.{ready_cells}
+use native.Mathlib.Omega.{arith}
+use borrow.Author.Rules.{rules}
+use Rattle.closed.proofs.passes.band_inside.Goals as goal
+
+pub count_between-requires : goal.count_between-requires
+count_between-requires c =
+    let p = c.requires in
+    (p.0.given.whole, p.1)
+
+pub overflow_add-classes : goal.overflow_add-classes
+overflow_add-classes c =
+    omega (arith, c.count_between.type_inv)
+
+pub loop-class-init : goal.loop-class-init
+loop-class-init c =
+    (omega arith, refl, classes_start _ _ _ _ _ _)
+
+pub index_pass-requires : goal.index_pass-requires
+index_pass-requires c =
+    let p = c.requires in
+    (p.0.given.whole, omega (arith, p.0.some, c.loop-class.invariant.1), omega arith, p.1)
+
+pub rows_inside-requires : goal.rows_inside-requires
+rows_inside-requires c =
+    let p = c.requires in
+    (ready_cells p.0 (c.index_pass.ensures ∙ c.loop-class.invariant.1), omega arith, p.1)
+
+pub shape_of-cells-then-not-rows_inside : goal.shape_of-cells-then-not-rows_inside
+shape_of-cells-then-not-rows_inside c =
+    c.index_pass.ensures ∙ c.loop-class.invariant.1
+
+pub returns-then-not-rows_inside : goal.returns-then-not-rows_inside
+returns-then-not-rows_inside c =
+    let none : c.rows_Inside.result ≡ false = not-true c.rows_Inside.result c.if-not-rows_inside.true in
+    (c.index_pass.ensures ∙ c.loop-class.invariant.1, rw none at c.rows_Inside.ensures)
+
+pub loop-class-preserved : goal.loop-class-preserved
+loop-class-preserved c =
+    let a = c.args in
+    let yes : c.rows_Inside.result ≡ true = not-false c.rows_Inside.result c.if-not-rows_inside.false in (
+      omega arith,
+      c.index_pass.ensures ∙ c.loop-class.invariant.1,
+      classes_next a.t a.file.now a.split a.low a.high _ c.loop-class.invariant.2 (rw yes at c.rows_Inside.ensures),
+    )
+
+pub shape_of-cells : goal.shape_of-cells
+shape_of-cells c =
+    c.loop-class.invariant.1
+
+pub returns : goal.returns
+returns c =
+    let a = c.args in
+    (c.loop-class.invariant.1, classes_end a.t a.file.now a.split a.low a.high _ c.loop-class.invariant.2 (omega arith) c.loop-class-test.false)

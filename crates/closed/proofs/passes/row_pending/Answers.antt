@@ -1,0 +1,101 @@
+use Prim.Native.Nat.{ℕ, ◌+◌, ◌-◌, ◌*◌, ◌<◌, ◌≤◌}
+use mathlib.Core.Path.{◌≡◌, refl, ap, ◌∙◌}
+use mathlib.Core.Bool.{Bool, true, false, ◌&&◌}
+use borrow.Author.Tests.{not-true}
+use lib.Dec.{leb, ltb}
+use lib.ListN.{length, get_or}
+use Rattle.tasks.specs.State.{improper}
+use Rattle.tasks.specs.Tick.{after}
+use Rattle.tasks.specs.Masks.{free_mask}
+use Rattle.tasks.specs.Words.{state_of}
+use Rattle.tasks.proofs.InWords.{WordList}
+use Rattle.tasks.proofs.Free.{ticks, frees}
+use Rattle.states.proofs.MaskLaws.{walked_falls}
+use Rattle.states.specs.Bytes.{state_in}
+use Rattle.closed.specs.Keeping.{landing}
+use Rattle.closed.proofs.RowLaws.{RowTo, Row, row_start, row_next, row_skipped, row_end}
+use native.Mathlib.Omega.{arith}
+use borrow.Author.Rules.{rules}
+use Rattle.closed.proofs.passes.row_pending.Goals as goal
+
+-- where the row began
+abbrev start : goal.At-loop-m invariant-loop decreases-loop → goal.Start invariant-loop decreases-loop
+start l = l.before.before.before.before.before.before.before.before.before.before.before.before
+
+-- the words are words
+word-list : (w : goal.After-words_in-v invariant-loop decreases-loop) → WordList w.words-in.result
+word-list w = record { word = λ i h. search rules }
+
+-- whether the masks are due, by the gap that was read
+due-is :
+    (g : goal.After-gap_at-gap invariant-loop decreases-loop) (released : Bool) {b : Bool} {at : ℕ}
+    → b ≡ (leb g.before.before.before.before.args.pass.low at && ltb at g.before.before.before.before.args.pass.high)
+    → at ≡ landing g.before.before.before.before.args.split.top g.gap_at.result released
+    → b ≡ (leb g.before.before.before.before.args.pass.low (landing g.before.before.before.before.args.split.top (get_or g.before.before.before.before.args.file.now (16 * g.before.before.before.before.args.i + 2 * g.before.before.before.before.args.split.task + 1) 0) released) && ltb (landing g.before.before.before.before.args.split.top (get_or g.before.before.before.before.args.file.now (16 * g.before.before.before.before.args.i + 2 * g.before.before.before.before.args.split.task + 1) 0) released) g.before.before.before.before.args.pass.high)
+due-is g released e f = rw (e, f, g.gap_at.ensures)
+
+-- what the row knows of its state
+row :
+    (l : goal.At-loop-m invariant-loop decreases-loop)
+    → Row (start l).args.t (start l).args.ticker (start l).args.file.now (start l).args.split (start l).args.pass (start l).args.i l.before.before.before.before.before.before.between.result l.before.before.before.before.between2.result l.before.prepare.result l.before.before.free.result
+row l =
+    let s = start l in
+    let w = l.before.before.before.before.before.before.before.before.before in
+    let g = l.before.before.before.before.before.before.before.before in
+    let here : state_of w.words-in.result ≡ state_in s.args.file.now s.args.i = w.words-in.ensures in
+    record {
+      keeps = due-is g false l.before.before.before.before.before.before.between.ensures l.before.before.before.before.before.before.before.landing.ensures;
+      releases = due-is g true l.before.before.before.before.between2.ensures l.before.before.before.before.before.landing2.ensures;
+      ticks = λ q. ticks s.args.t _ s.pre.1 l.before.prepare.ensures s.pre.0.valid (ap (improper s.args.t) here ∙ s.pre.5) (word-list w) q ∙ ap (λ u. after s.args.t u q) here;
+      frees = frees s.args.t _ s.pre.1 l.before.before.free.ensures ∙ ap (free_mask s.args.t) here;
+    }
+
+pub words_in-v-requires : goal.words_in-v-requires
+words_in-v-requires c =
+    let g = c.requires in
+    omega (arith, g.0.whole, g.4)
+
+pub gap_at-gap-requires : goal.gap_at-gap-requires
+gap_at-gap-requires c =
+    let g = c.requires in
+    (omega (arith, g.0.whole, g.4), g.3)
+
+pub returns-then-not-kept-released : goal.returns-then-not-kept-released
+returns-then-not-kept-released c =
+    (
+      omega arith,
+      row_skipped c.args.t c.args.file.now c.args.split c.args.pass c.args.i
+          (due-is c false c.between-kept.ensures c.landing.ensures) (due-is c true c.between-released.ensures c.landing-2.ensures) (not-true _ c.if-not-kept-released.true) c.args.n c.args.pending.now c.args.count,
+    )
+
+pub loop-m-init : goal.loop-m-init
+loop-m-init c =
+    (omega arith, refl, row_start (omega (arith, c.free-free.type_inv)) _ _)
+
+pub put_after-c-requires : goal.put_after-c-requires
+put_after-c-requires c =
+    let p = (start c).requires in
+    (omega (arith, p.6, c.loop-m.invariant.0, c.loop-m.invariant.1, c.loop-m-test.true), p.2)
+
+pub loop-m-smaller : goal.loop-m-smaller
+loop-m-smaller c =
+    rw c.follow-m.ensures (omega (arith, walked_falls _ (omega (arith, c.free-free.type_inv)) c.loop-m.invariant.2.walked c.loop-m-test.true, c.loop-m.invariant.2.walked.most))
+
+pub loop-m-preserved : goal.loop-m-preserved
+loop-m-preserved c =
+    let small = c.loop-m-test.true in
+    let free : c.free-free.result < 256 = omega (arith, c.free-free.type_inv) in
+    let more = c.put_after-c.ensures in
+    rw c.follow-m.ensures (
+      omega (arith, more.0, c.loop-m.invariant.0, walked_falls _ free c.loop-m.invariant.2.walked small),
+      more.1.grown.same ∙ c.loop-m.invariant.1,
+      row_next free c.loop-m.invariant.2 small c.is_due-due.ensures c.shared_slice_known-1.given more.1,
+    )
+
+pub shape_of-pending : goal.shape_of-pending
+shape_of-pending c =
+    c.loop-m.invariant.1
+
+pub returns : goal.returns
+returns c =
+    (omega (arith, c.loop-m.invariant.0, c.loop-m.invariant.2.walked.most), row_end (row c) (start c).requires.0.is (start c).requires.4 c.loop-m.invariant.2 c.loop-m-test.false)

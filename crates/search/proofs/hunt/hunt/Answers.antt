@@ -1,0 +1,81 @@
+use mathlib.Core.Path.{◌≡◌, sym, ap, ◌∙◌}
+use Prim.Native.Nat.{ℕ, ◌-◌, ◌≤◌, ◌<◌}
+use mathlib.Core.Logic.{⊎_elim}
+use Rattle.tasks.specs.State.{improper}
+use Rattle.tasks.specs.Tick.{after, missed}
+use Rattle.tasks.specs.Masks.{free_mask}
+use Rattle.tasks.specs.Ticker.{ticked_by}
+use Rattle.tasks.specs.Words.{state_of}
+use Rattle.tasks.proofs.InWords.{WordList}
+use Rattle.tasks.proofs.Free.{ticks, frees}
+use Rattle.levels.specs.Levels.{Calm, Hunting}
+use Rattle.levels.proofs.Explore.{hunt_start}
+use Rattle.states.specs.System.{system}
+use Rattle.states.specs.Bytes.{state_in}
+use Rattle.states.proofs.MaskLaws.{walked_start, walked_next, walked_falls}
+use Rattle.states.proofs.MissLaws.{calm_by}
+use Rattle.search.proofs.HuntLaws.{CalmTo, calm_end, hunt_turn, miss_from}
+use native.Mathlib.Omega.{arith}
+use borrow.Author.Rules.{rules}
+use Rattle.search.proofs.hunt.hunt.Goals as goal
+
+-- the words are words
+word-list : (c : goal.After-words_in-v invariant-loop decreases-loop invariant-hunt decreases-hunt) → WordList c.words_in-v.result
+word-list c = record { word = λ i h. search rules }
+
+pub hunt-init : goal.hunt-init
+hunt-init c = let r = c.requires in (omega arith, omega arith, hunt_start (system _))
+
+pub loop-m-init : goal.loop-m-init
+loop-m-init c =
+    let level = c.requires.2 in
+    let h = c.hunt in
+    let ne = c.if-i-hi.false in
+    let below : h.i < c.args.hi = omega (arith, h.invariant.1) in (
+      walked_start _ (omega (arith, c.free-free.type_inv)),
+      frees _ _ c.requires.0 c.free-free.ensures ∙ ap (free_mask _) c.words_in-v.ensures,
+      λ mask. ticks _ _ c.requires.0 c.prepare-state.ensures level.valid (ap (improper _) c.words_in-v.ensures ∙ level.proper _ below) (word-list c) mask ∙ ap (λ u. after c.args.t u mask) c.words_in-v.ensures,
+    )
+
+pub loop-m-smaller : goal.loop-m-smaller
+loop-m-smaller c =
+    let x = c.loop-m.invariant.0 in
+    rw c.follow-m.ensures (omega (arith, walked_falls _ (omega (arith, c.free-free.type_inv)) x c.loop-m-test.true, x.most))
+
+pub loop-m-preserved : goal.loop-m-preserved
+loop-m-preserved c =
+    let x = c.loop-m.invariant in (
+      rw c.follow-m.ensures
+          (walked_next _ (omega (arith, c.free-free.type_inv)) x.0 c.loop-m-test.true (rw (c.after-next.ensures, x.2 _) at (sym c.misses.ensures ∙ c.if-misses.false))),
+      x.1,
+      x.2,
+    )
+
+pub hunt-preserved : goal.hunt-preserved
+hunt-preserved c =
+    let h = c.hunt in
+    let level = c.requires.2 in
+    let ne = c.if-i-hi.false in
+    let a = c.args in
+    let below : h.i < a.hi = omega arith in
+    let s = state_in a.work.now h.i in
+    let proper = level.proper h.i below in
+    let calm : Calm (system a.t) s =
+    ⊎_elim
+    (λ w. calm_end a.t level.valid s proper (rw (← w.3.inv.1) w.3.inv.0) w.4.left)
+    (λ w. calm_by a.t level.valid s proper c.words_in-v.ensures c.requires.0 (word-list c) (sym c.has_miss.ensures ∙ w.left))
+    c.if-has_miss.branch in
+    (omega arith, omega arith, hunt_turn a.t a.work.now h.invariant.2 calm)
+
+pub returns-then-i-hi : goal.returns-then-i-hi
+returns-then-i-hi c = rw c.if-i-hi.true at c.hunt.invariant.2
+
+pub returns-then-misses : goal.returns-then-misses
+returns-then-misses c =
+    let h = c.hunt in
+    let ne = c.if-i-hi.false in
+    let x = c.loop-m.invariant in
+    let b = c.loop-m-test.true in
+    miss_from c.requires.2 h.invariant.0 (omega arith) b
+    (rw (← x.1) (x.0.is b))
+    (ap (missed c.args.t) (sym (x.2 _)) ∙ ap (λ v. missed c.args.t (state_of v)) (sym c.after-next.ensures) ∙ sym c.misses.ensures ∙ c.if-misses.true)

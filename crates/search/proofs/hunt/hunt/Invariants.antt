@@ -1,0 +1,35 @@
+-- The invariant of the slots: no mask misses from those passed; of the masks: none of those passed misses. Assumes nothing.
+use mathlib.Core.Path.{◌≡◌, sym, ap, ◌∙◌}
+use Prim.Native.Nat.{ℕ, ◌-◌, ◌≤◌, ◌<◌}
+use mathlib.Core.Logic.{⊎_elim}
+use Rattle.tasks.specs.State.{improper}
+use Rattle.tasks.specs.Tick.{after, missed}
+use Rattle.tasks.specs.Masks.{free_mask}
+use Rattle.tasks.specs.Ticker.{ticked_by}
+use Rattle.tasks.specs.Words.{state_of}
+use Rattle.tasks.proofs.InWords.{WordList}
+use Rattle.tasks.proofs.Free.{ticks, frees}
+use Rattle.levels.specs.Levels.{Calm, Hunting}
+use Rattle.levels.proofs.Explore.{hunt_start}
+use Rattle.states.specs.System.{system}
+use Rattle.states.specs.Bytes.{state_in}
+use Rattle.states.proofs.MaskLaws.{walked_start, walked_next, walked_falls}
+use Rattle.states.proofs.MissLaws.{calm_by}
+use Rattle.search.proofs.HuntLaws.{CalmTo, calm_end, hunt_turn, miss_from}
+use native.Mathlib.Omega.{arith}
+use borrow.Author.Rules.{rules}
+use Rattle.search.proofs.hunt.hunt.Given as goal
+
+abbrev pub invariant-loop-m : goal.invariant-loop-m
+invariant-loop-m l =
+    CalmTo l.t (state_in l.work l.i) l.free l.m × (l.free ≡ free_mask l.t (state_in l.work l.i))
+    × ((mask : ℕ) → state_of (ticked_by l.ticker l.state mask) ≡ after l.t (state_in l.work l.i) mask)
+
+abbrev pub decreases-loop-m : goal.decreases-loop-m
+decreases-loop-m l = 256 - l.m
+
+abbrev pub invariant-hunt : goal.invariant-hunt
+invariant-hunt l = (l.lo ≤ l.i) × (l.i ≤ l.hi) × Hunting (system l.t) (state_in l.work) l.lo l.i
+
+abbrev pub decreases-hunt : goal.decreases-hunt
+decreases-hunt l = l.hi - l.i

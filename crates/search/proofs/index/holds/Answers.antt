@@ -1,0 +1,61 @@
+use Prim.Native.Nat.{◌-◌}
+use mathlib.Core.Path.{◌≡◌, sym, ◌∙◌}
+use lib.ListN.{length}
+use Rattle.tasks.specs.Words.{state_of}
+use Rattle.levels.proofs.Index.{Walk, walk_start, walk_next, walk_falls, walk_end}
+use Rattle.states.specs.Keys.{key_in}
+use Rattle.search.specs.Indexed.{bucket_for, bucket_of, tag_of, newest, tags_in}
+use Rattle.states.proofs.WordLaws.{word_bytes}
+use Rattle.states.proofs.KeyLaws.{Bytes, keys_same, keys_differ}
+use Rattle.search.proofs.IndexLaws.{keyed, not_tagged}
+use Rattle.states.proofs.ColumnLaws.{held, held_key}
+use native.Mathlib.Omega.{arith}
+use borrow.Author.Rules.{rules}
+use Rattle.search.proofs.index.holds.Goals as goal
+
+bytes : (c : goal.Start invariant-loop decreases-loop) → Bytes (state_of c.args.v)
+bytes c = word_bytes c.args.v (λ k b. search rules)
+
+pub bucket-b-requires : goal.bucket-b-requires
+bucket-b-requires c = c.requires.some
+
+pub returns-then-head-tag_bit-eq0 : goal.returns-then-head-tag_bit-eq0
+unfolding bucket_of tag_of tags_in
+returns-then-head-tag_bit-eq0 c =
+    not_tagged c.requires (state_of c.args.v) (rw (c.bucket-b.ensures.0, c.tag_bit.ensures.0, c.key_of-key.ensures) at c.if-head-tag_bit-eq0.true)
+
+pub overflow_cast-cur : goal.overflow_cast-cur
+overflow_cast-cur c = omega arith
+
+pub loop-cur-init : goal.loop-cur-init
+unfolding newest
+loop-cur-init c = rw c.bucket-b.ensures.0 (walk_start (keyed c.requires) c.key_of-key.result)
+
+pub returns-then-same_keys : goal.returns-then-same_keys
+returns-then-same_keys c =
+    let e = keys_same _ _ (sym c.same_keys.ensures ∙ c.if-same_keys.true) in
+    held _ (state_of c.args.v) c.shared_slice_known-1.given (bytes c)
+    (record { place = c.loop-cur.cur - 1; below = omega (arith, c.loop-cur.invariant.low); same = sym c.key_in.ensures ∙ e ∙ c.key_of-key.ensures })
+
+pub link_of-cur-requires : goal.link_of-cur-requires
+link_of-cur-requires c =
+    let x = c.requires in
+    let h = x.room in
+    (omega (arith, c.loop-cur.invariant.low), x.fits)
+
+pub loop-cur-smaller : goal.loop-cur-smaller
+loop-cur-smaller c =
+    rw c.link_of-cur.ensures (walk_falls (keyed c.requires) c.key_of-key.result c.loop-cur.cur (omega arith) c.loop-cur.invariant)
+
+pub loop-cur-preserved : goal.loop-cur-preserved
+loop-cur-preserved c =
+    let differ = keys_differ _ _ (sym c.same_keys.ensures ∙ c.if-same_keys.false) in
+    rw c.link_of-cur.ensures
+    (walk_next (keyed c.requires) c.key_of-key.result c.loop-cur.cur (omega arith) c.loop-cur.invariant
+    (λ q. differ (c.key_in.ensures ∙ q)))
+
+pub returns : goal.returns
+returns c =
+    let e : c.loop-cur.cur ≡ 0 = omega arith in
+    let none = rw c.key_of-key.ensures at (walk_end (rw e at c.loop-cur.invariant)) in
+    λ h. none (held_key _ _ h)

@@ -1,0 +1,25 @@
+-- The invariant: the successors under the masks passed are stored. Assumes nothing.
+use mathlib.Core.Path.{◌≡◌, refl, ap, ◌∙◌}
+use Prim.Native.Nat.{◌-◌, ◌≤◌}
+use mathlib.Core.Logic.{⊎_elim}
+use lib.ListN.{length}
+use Rattle.tasks.specs.State.{improper}
+use Rattle.tasks.specs.Tick.{after}
+use Rattle.tasks.specs.Masks.{free_mask}
+use Rattle.tasks.specs.Ticker.{ticker_of}
+use Rattle.tasks.specs.declared.table.Table.{Table}
+use Rattle.tasks.proofs.InWords.{WordList}
+use Rattle.tasks.proofs.Free.{ticks, frees}
+use Rattle.search.specs.Keeping.{RowReady}
+use Rattle.search.proofs.StoreLaws.{RowBy, row_start, row_known, row_added, row_crowded, row_falls, row_end}
+use native.Mathlib.Omega.{arith}
+use borrow.Author.Rules.{rules}
+use Rattle.search.proofs.store.store_row.Given as goal
+
+abbrev pub invariant-loop-m : goal.invariant-loop-m
+invariant-loop-m l =
+    (l.from ≤ l.n) × (length l.heads ≡ length l.initial.heads)
+    × ((t : Table) → l.ticker ≡ ticker_of t → RowReady t l.k l.initial.work l.initial.heads l.from l.i → RowBy t l.ticker l.state l.k l.initial.work l.work l.heads l.from l.n l.i l.free l.m)
+
+abbrev pub decreases-loop-m : goal.decreases-loop-m
+decreases-loop-m l = 256 - l.m
