@@ -9,11 +9,6 @@ use native.Mathlib.Omega.{arith}
 use borrow.Author.Rules.{rules}
 use Rattle.closed.proofs.check.all_sound.Goals as goal
 
--- what the test says of the state
-told :
-    (c : goal.After-is_sound invariant-loop decreases-loop) → StateIs c.args.t (state_in c.args.file.now c.loop-i.i) c.is_sound.result
-told c = rw c.words_in.ensures at c.is_sound.ensures
-
 pub loop-i-init : goal.loop-i-init
 loop-i-init c =
     (omega arith, sound_start _ _)
@@ -28,13 +23,13 @@ is_sound-requires c = (c.requires.0.valid, c.requires.1)
 
 pub returns-then-not-is_sound : goal.returns-then-not-is_sound
 returns-then-not-is_sound c =
-    let none : c.is_sound.result ≡ false = not-true c.is_sound.result c.if-not-is_sound.true in
-    not_sound c.args.t c.args.file.now c.requires.0.is c.loop-i-test.true (rw none at (told c))
+    let none : c.is_sound.result ≡ false = c.if-not-is_sound.true in
+    not_sound c.args.t c.args.file.now c.requires.0.is c.loop-i-test.true (rw none at (let it : StateIs c.args.t (state_in c.args.file.now c.loop-i.i) c.is_sound.result = rw c.words_in.ensures at c.is_sound.ensures in it))
 
 pub loop-i-preserved : goal.loop-i-preserved
 loop-i-preserved c =
-    let yes : c.is_sound.result ≡ true = not-false c.is_sound.result c.if-not-is_sound.false in
-    (omega (arith, c.loop-i-test.true), sound_next c.args.t c.args.file.now c.loop-i.invariant.1 (rw yes at (told c)))
+    let yes : c.is_sound.result ≡ true = c.if-not-is_sound.false in
+    (omega (arith, c.loop-i-test.true), sound_next c.args.t c.args.file.now c.loop-i.invariant.1 (rw yes at (let it : StateIs c.args.t (state_in c.args.file.now c.loop-i.i) c.is_sound.result = rw c.words_in.ensures at c.is_sound.ensures in it)))
 
 pub returns : goal.returns
 returns c =

@@ -16,8 +16,8 @@ all_sound-requires c =
 
 pub returns-then-not-all_sound : goal.returns-then-not-all_sound
 returns-then-not-all_sound c =
-    let none : c.All-sound.result ≡ false = not-true c.All-sound.result c.if-not-all_sound.true in
-    rw none at c.All-sound.ensures
+    let none : c.all_sound.result ≡ false = c.if-not-all_sound.true in
+    rw none at c.all_sound.ensures
 
 pub scan-requires : goal.scan-requires
 scan-requires c =
@@ -26,21 +26,21 @@ scan-requires c =
 pub returns-then-not-scan : goal.returns-then-not-scan
 unfolding state_of
 returns-then-not-scan c =
-    let none : c.scan.result ≡ false = not-true c.scan.result c.if-not-scan.true in
+    let none : c.scan.result ≡ false = c.if-not-scan.true in
     let absent = rw none at c.scan.ensures in
     λ x. absent (rw (c.key_of-start.ensures, c.requires.0.is) (held_key c.args.file.now start x.begins))
 
 pub all_inside-requires : goal.all_inside-requires
 all_inside-requires c =
-    let yes : c.All-sound.result ≡ true = not-false c.All-sound.result c.if-not-all_sound.false in
-    (record { given = c.requires.0; made = c.ticker-ticker.ensures; sound = rw yes at c.All-sound.ensures; some = c.requires.1 }, c.split_of.ensures.0, c.split_of.ensures.1)
+    let yes : c.all_sound.result ≡ true = c.if-not-all_sound.false in
+    (record { given = c.requires.0; made = c.ticker-ticker.ensures; sound = rw yes at c.all_sound.ensures; some = c.requires.1 }, c.split_of.ensures.0, c.split_of.ensures.1)
 
 pub returns : goal.returns
 unfolding state_of
 returns c =
-    let sound : c.All-sound.result ≡ true = not-false c.All-sound.result c.if-not-all_sound.false in
-    let found : c.scan.result ≡ true = not-false c.scan.result c.if-not-scan.false in
+    let sound : c.all_sound.result ≡ true = c.if-not-all_sound.false in
+    let found : c.scan.result ≡ true = c.if-not-scan.false in
     let h = rw found at c.scan.ensures in
-    closed_is c.args.t c.args.file.now c.all_inside.result c.requires.0.valid (rw sound at c.All-sound.ensures)
+    closed_is c.args.t c.args.file.now c.all_inside.result c.requires.0.valid (rw sound at c.all_sound.ensures)
     (rw (← c.requires.0.is) (held c.args.file.now start c.shared_slice_known-1.given start_bytes (rw c.key_of-start.ensures at h)))
     c.all_inside.ensures

@@ -32,7 +32,7 @@ shape_of-cells-then-not-band_inside c =
 
 pub returns-then-not-band_inside : goal.returns-then-not-band_inside
 returns-then-not-band_inside c =
-    let none : c.band_inside.result ≡ false = not-true c.band_inside.result c.if-not-band_inside.true in
+    let none : c.band_inside.result ≡ false = c.if-not-band_inside.true in
     rw none at c.band_inside.ensures.1
 
 pub loop-low-smaller : goal.loop-low-smaller
@@ -42,7 +42,7 @@ loop-low-smaller c =
 pub loop-low-preserved : goal.loop-low-preserved
 loop-low-preserved c =
     let a = c.args in
-    let yes : c.band_inside.result ≡ true = not-false c.band_inside.result c.if-not-band_inside.false in
+    let yes : c.band_inside.result ≡ true = c.if-not-band_inside.false in
     (c.band_inside.ensures.0 ∙ c.loop-low.invariant.0, bands_next a.t a.file.now a.split c.loop-low.invariant.1 (rw yes at c.band_inside.ensures.1))
 
 pub shape_of-cells : goal.shape_of-cells

@@ -39,16 +39,16 @@ shape_of-cells-then-not-rows_inside c =
 
 pub returns-then-not-rows_inside : goal.returns-then-not-rows_inside
 returns-then-not-rows_inside c =
-    let none : c.rows_Inside.result ≡ false = not-true c.rows_Inside.result c.if-not-rows_inside.true in
-    (c.index_pass.ensures ∙ c.loop-class.invariant.1, rw none at c.rows_Inside.ensures)
+    let none : c.rows_inside.result ≡ false = c.if-not-rows_inside.true in
+    (c.index_pass.ensures ∙ c.loop-class.invariant.1, rw none at c.rows_inside.ensures)
 
 pub loop-class-preserved : goal.loop-class-preserved
 loop-class-preserved c =
     let a = c.args in
-    let yes : c.rows_Inside.result ≡ true = not-false c.rows_Inside.result c.if-not-rows_inside.false in (
+    let yes : c.rows_inside.result ≡ true = c.if-not-rows_inside.false in (
       omega arith,
       c.index_pass.ensures ∙ c.loop-class.invariant.1,
-      classes_next a.t a.file.now a.split a.low a.high _ c.loop-class.invariant.2 (rw yes at c.rows_Inside.ensures),
+      classes_next a.t a.file.now a.split a.low a.high _ c.loop-class.invariant.2 (rw yes at c.rows_inside.ensures),
     )
 
 pub shape_of-cells : goal.shape_of-cells

@@ -15,7 +15,7 @@ use Rattle.closed.proofs.passes.put_after.Goals as goal
 pub returns-then-not-due : goal.returns-then-not-due
 returns-then-not-due c =
     let a = c.args in
-    (omega arith, after_not a.pass a.due (state_of (ticked_by a.ticker a.state a.mask)) a.pending.now a.count (λ due is. clash due (not-true _ c.if-not-due.true)))
+    (omega arith, after_not a.pass a.due (state_of (ticked_by a.ticker a.state a.mask)) a.pending.now a.count (λ due is. clash due (c.if-not-due.true)))
 
 pub returns-then-class_of-pass : goal.returns-then-class_of-pass
 returns-then-class_of-pass c =

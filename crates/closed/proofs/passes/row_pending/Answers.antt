@@ -18,14 +18,6 @@ use native.Mathlib.Omega.{arith}
 use borrow.Author.Rules.{rules}
 use Rattle.closed.proofs.passes.row_pending.Goals as goal
 
--- where the row began
-abbrev start : goal.At-loop-m invariant-loop decreases-loop → goal.Start invariant-loop decreases-loop
-start l = l.before.before.before.before.before.before.before.before.before.before.before.before
-
--- the words are words
-word-list : (w : goal.After-words_in-v invariant-loop decreases-loop) → WordList w.words-in.result
-word-list w = record { word = λ i h. search rules }
-
 -- whether the masks are due, by the gap that was read
 due-is :
     (g : goal.After-gap_at-gap invariant-loop decreases-loop) (released : Bool) {b : Bool} {at : ℕ}
@@ -33,22 +25,6 @@ due-is :
     → at ≡ landing g.before.before.before.before.args.split.top g.gap_at.result released
     → b ≡ (leb g.before.before.before.before.args.pass.low (landing g.before.before.before.before.args.split.top (get_or g.before.before.before.before.args.file.now (16 * g.before.before.before.before.args.i + 2 * g.before.before.before.before.args.split.task + 1) 0) released) && ltb (landing g.before.before.before.before.args.split.top (get_or g.before.before.before.before.args.file.now (16 * g.before.before.before.before.args.i + 2 * g.before.before.before.before.args.split.task + 1) 0) released) g.before.before.before.before.args.pass.high)
 due-is g released e f = rw (e, f, g.gap_at.ensures)
-
--- what the row knows of its state
-row :
-    (l : goal.At-loop-m invariant-loop decreases-loop)
-    → Row (start l).args.t (start l).args.ticker (start l).args.file.now (start l).args.split (start l).args.pass (start l).args.i l.before.before.before.before.before.before.between.result l.before.before.before.before.between2.result l.before.prepare.result l.before.before.free.result
-row l =
-    let s = start l in
-    let w = l.before.before.before.before.before.before.before.before.before in
-    let g = l.before.before.before.before.before.before.before.before in
-    let here : state_of w.words-in.result ≡ state_in s.args.file.now s.args.i = w.words-in.ensures in
-    record {
-      keeps = due-is g false l.before.before.before.before.before.before.between.ensures l.before.before.before.before.before.before.before.landing.ensures;
-      releases = due-is g true l.before.before.before.before.between2.ensures l.before.before.before.before.before.landing2.ensures;
-      ticks = λ q. ticks s.args.t _ s.pre.1 l.before.prepare.ensures s.pre.0.valid (ap (improper s.args.t) here ∙ s.pre.5) (word-list w) q ∙ ap (λ u. after s.args.t u q) here;
-      frees = frees s.args.t _ s.pre.1 l.before.before.free.ensures ∙ ap (free_mask s.args.t) here;
-    }
 
 pub words_in-v-requires : goal.words_in-v-requires
 words_in-v-requires c =
@@ -65,7 +41,7 @@ returns-then-not-kept-released c =
     (
       omega arith,
       row_skipped c.args.t c.args.file.now c.args.split c.args.pass c.args.i
-          (due-is c false c.between-kept.ensures c.landing.ensures) (due-is c true c.between-released.ensures c.landing-2.ensures) (not-true _ c.if-not-kept-released.true) c.args.n c.args.pending.now c.args.count,
+          (due-is c false c.between-kept.ensures c.landing.ensures) (due-is c true c.between-released.ensures c.landing-2.ensures) (c.if-not-kept-released.true) c.args.n c.args.pending.now c.args.count,
     )
 
 pub loop-m-init : goal.loop-m-init
@@ -74,7 +50,7 @@ loop-m-init c =
 
 pub put_after-c-requires : goal.put_after-c-requires
 put_after-c-requires c =
-    let p = (start c).requires in
+    let p = c.requires in
     (omega (arith, p.6, c.loop-m.invariant.0, c.loop-m.invariant.1, c.loop-m-test.true), p.2)
 
 pub loop-m-smaller : goal.loop-m-smaller
@@ -98,4 +74,10 @@ shape_of-pending c =
 
 pub returns : goal.returns
 returns c =
-    (omega (arith, c.loop-m.invariant.0, c.loop-m.invariant.2.walked.most), row_end (row c) (start c).requires.0.is (start c).requires.4 c.loop-m.invariant.2 c.loop-m-test.false)
+    (omega (arith, c.loop-m.invariant.0, c.loop-m.invariant.2.walked.most), row_end (let it : Row c.args.t c.args.ticker c.args.file.now c.args.split c.args.pass c.args.i c.between-kept.result c.between-released.result c.prepare-state.result c.free-free.result = let here : state_of c.words_in-v.result ≡ state_in c.args.file.now c.args.i = c.words_in-v.ensures in
+    record {
+      keeps = due-is c false c.between-kept.ensures c.landing.ensures;
+      releases = due-is c true c.between-released.ensures c.landing-2.ensures;
+      ticks = λ q. ticks c.args.t _ c.pre.1 c.prepare-state.ensures c.pre.0.valid (ap (improper c.args.t) here ∙ c.pre.5) (let it : WordList c.words_in-v.result = record { word = λ i h. search rules } in it) q ∙ ap (λ u. after c.args.t u q) here;
+      frees = frees c.args.t _ c.pre.1 c.free-free.ensures ∙ ap (free_mask c.args.t) here;
+    } in it) c.requires.0.is c.requires.4 c.loop-m.invariant.2 c.loop-m-test.false)

@@ -31,7 +31,7 @@ all_held-requires c =
 pub returns-then-not-all_held : goal.returns-then-not-all_held
 returns-then-not-all_held c =
     let l = c.loop-row in
-    let none : c.all_held.result ≡ false = not-true c.all_held.result c.if-not-all_held.true in
+    let none : c.all_held.result ≡ false = c.if-not-all_held.true in
     waiting_open c.args.t c.args.file.now c.args.n c.requires.0.given.valid c.requires.0.given.is
     (waiting_next c.args.t c.args.file.now c.args.n c.args.split c.args.pass l.invariant.4 c.row_pending-count.ensures.1) (rw none at c.all_held.ensures)
 
@@ -39,7 +39,7 @@ pub loop-row-preserved-then-count-row : goal.loop-row-preserved-then-count-row
 loop-row-preserved-then-count-row c =
     let l = c.loop-row in
     let r = c.row_pending-count.ensures in
-    let yes : c.all_held.result ≡ true = not-false c.all_held.result c.if-not-all_held.false in (
+    let yes : c.all_held.result ≡ true = c.if-not-all_held.false in (
       omega arith,
       r.1.grown.same ∙ l.invariant.1,
       omega arith,

@@ -15,13 +15,13 @@ loop-k-init c =
 pub returns-then-not-holds : goal.returns-then-not-holds
 returns-then-not-holds c =
     let l = c.loop-k in
-    let none : c.holds.result ≡ false = not-true c.holds.result c.if-not-holds.true in
+    let none : c.holds.result ≡ false = c.if-not-holds.true in
     λ all. (rw none at c.holds.ensures) (rw c.key_at.ensures (all.each l.k c.loop-k-test.true))
 
 pub loop-k-preserved : goal.loop-k-preserved
 loop-k-preserved c =
     let l = c.loop-k in
-    let yes : c.holds.result ≡ true = not-false c.holds.result c.if-not-holds.false in
+    let yes : c.holds.result ≡ true = c.if-not-holds.false in
     (omega arith, held_next l.invariant.1 (rw c.key_at.ensures at (rw yes at c.holds.ensures)))
 
 pub returns : goal.returns

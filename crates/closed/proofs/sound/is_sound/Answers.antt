@@ -13,10 +13,6 @@ use Rattle.closed.proofs.SoundLaws.{proper_by, proper_within, proper_kept_all, l
 use borrow.Author.Rules.{rules}
 use Rattle.closed.proofs.sound.is_sound.Goals as goal
 
--- the words are words
-word-list : (c : goal.Start) → WordList c.args.v
-word-list c = record { word = λ i h. search rules }
-
 and_no : (b : Bool) → b && false ≡ false
 and_no true = refl
 and_no false = refl
@@ -29,9 +25,9 @@ pub returns-then-not-tight : goal.returns-then-not-tight
 returns-then-not-tight c =
     let t = c.args.t in
     let v = c.args.v in
-    let loose = sym c.tight.ensures ∙ not-true _ c.if-not-tight.true in
+    let loose = sym c.tight.ensures ∙ c.if-not-tight.true in
     let proper = proper_by t (state_of v) c.requires.0 (sym c.exceeds.ensures ∙ c.if-exceeds.false) (loose_kept t (state_of v) loose) in
-    record { proper = proper; calm = calm_by t c.requires.0 (state_of v) proper refl c.requires.1 (word-list c) (ap (λ b. b && full_by t c.args.ticker v) loose) }
+    record { proper = proper; calm = calm_by t c.requires.0 (state_of v) proper refl c.requires.1 (let it : WordList c.args.v = record { word = λ i h. search rules } in it) (ap (λ b. b && full_by t c.args.ticker v) loose) }
 
 pub returns-then-misses : goal.returns-then-misses
 returns-then-misses c =
@@ -45,5 +41,5 @@ returns c =
     let proper = proper_by t (state_of v) c.requires.0 within (sym c.misses.ensures ∙ c.if-misses.false) in
     let full = c.full_misses.ensures in
     full_sound t (state_of v) (not c.full_misses.result) c.requires.0 proper
-    (λ e. calm_by t c.requires.0 (state_of v) proper refl c.requires.1 (word-list c) (rw (sym full ∙ not-true _ e) (and_no (tight t (state_of v)))))
-    (λ e. sym (full_by_lem t c.requires.0 (state_of v) proper refl c.requires.1 (word-list c)) ∙ sym full ∙ not-false _ e)
+    (λ e. calm_by t c.requires.0 (state_of v) proper refl c.requires.1 (let it : WordList c.args.v = record { word = λ i h. search rules } in it) (rw (sym full ∙ not-true _ e) (and_no (tight t (state_of v)))))
+    (λ e. sym (full_by_lem t c.requires.0 (state_of v) proper refl c.requires.1 (let it : WordList c.args.v = record { word = λ i h. search rules } in it)) ∙ sym full ∙ not-false _ e)

@@ -19,10 +19,6 @@ use native.Mathlib.Omega.{arith}
 use borrow.Author.Rules.{rules}
 use Rattle.search.proofs.hunt.hunt.Goals as goal
 
--- the words are words
-word-list : (c : goal.After-words_in-v invariant-loop decreases-loop invariant-hunt decreases-hunt) → WordList c.words_in-v.result
-word-list c = record { word = λ i h. search rules }
-
 pub hunt-init : goal.hunt-init
 hunt-init c = let r = c.requires in (omega arith, omega arith, hunt_start (system _))
 
@@ -34,7 +30,7 @@ loop-m-init c =
     let below : h.i < c.args.hi = omega (arith, h.invariant.1) in (
       walked_start _ (omega (arith, c.free-free.type_inv)),
       frees _ _ c.requires.0 c.free-free.ensures ∙ ap (free_mask _) c.words_in-v.ensures,
-      λ mask. ticks _ _ c.requires.0 c.prepare-state.ensures level.valid (ap (improper _) c.words_in-v.ensures ∙ level.proper _ below) (word-list c) mask ∙ ap (λ u. after c.args.t u mask) c.words_in-v.ensures,
+      λ mask. ticks _ _ c.requires.0 c.prepare-state.ensures level.valid (ap (improper _) c.words_in-v.ensures ∙ level.proper _ below) (let it : WordList c.words_in-v.result = record { word = λ i h. search rules } in it) mask ∙ ap (λ u. after c.args.t u mask) c.words_in-v.ensures,
     )
 
 pub loop-m-smaller : goal.loop-m-smaller
@@ -63,7 +59,7 @@ hunt-preserved c =
     let calm : Calm (system a.t) s =
     ⊎_elim
     (λ w. calm_end a.t level.valid s proper (rw (← w.3.inv.1) w.3.inv.0) w.4.left)
-    (λ w. calm_by a.t level.valid s proper c.words_in-v.ensures c.requires.0 (word-list c) (sym c.has_miss.ensures ∙ w.left))
+    (λ w. calm_by a.t level.valid s proper c.words_in-v.ensures c.requires.0 (let it : WordList c.words_in-v.result = record { word = λ i h. search rules } in it) (sym c.has_miss.ensures ∙ w.left))
     c.if-has_miss.branch in
     (omega arith, omega arith, hunt_turn a.t a.work.now h.invariant.2 calm)
 

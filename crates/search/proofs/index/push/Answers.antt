@@ -14,9 +14,6 @@ use native.Mathlib.Omega.{arith}
 use borrow.Author.Rules.{rules}
 use Rattle.search.proofs.index.push.Goals as goal
 
-bytes : (c : goal.Start) → Bytes (state_of c.args.v)
-bytes c = word_bytes c.args.v (λ k b. search rules)
-
 heads-fit : (c : goal.After-slice_known-2-1) (b : ℕ) → get_or c.args.heads.now b 0 < 4294967296
 heads-fit c b = let f = c.slice_known-2-1.given b in omega arith
 
@@ -42,7 +39,7 @@ returns c =
     let key = c.key_of-key.ensures in
     let bucket = c.bucket-b in
     let word = c.word_of-word in
-    let fits = bytes c in
+    let fits = (let it : Bytes (state_of c.args.v) = word_bytes c.args.v (λ k b. search rules) in it) in
     let put = put_slot a.work.now (state_of a.v) word.result a.mask c.requires.1 c.requires.0.fits fits.c_length fits.p_length (omega (arith, word.type_inv)) in
     rw (c.put_slot.ensures, c.tag_bit.ensures.0, key, add-one a.n)
     (pushed c.requires.0 put c.requires.1 bucket.result (ap (λ x. x % 1048576) word.ensures ∙ word_link a.parent _ (omega arith))

@@ -7,13 +7,6 @@ use native.Mathlib.Omega.{arith}
 use borrow.Author.Rules.{rules}
 use Rattle.search.proofs.run.run_levels.Goals as goal
 
--- where the search began, and slot 0 pushed
-abbrev start : goal.At-loop-i invariant-loop decreases-loop → goal.Start invariant-loop decreases-loop
-start l = l.before.before.before.before.before.before.before.before.before.before.before
-
-abbrev pushed : goal.At-loop-i invariant-loop decreases-loop → goal.After-push invariant-loop decreases-loop
-pushed l = l.before.before.before.before.before
-
 pub push-requires : goal.push-requires
 push-requires c = let fresh = c.requires.1 in (none_indexed fresh, fresh.some)
 
@@ -25,13 +18,13 @@ pub hunt-found-requires : goal.hunt-found-requires
 hunt-found-requires c =
     let stands = c.loop-i.invariant.2 in
     let order = stands.standing.explored.order in
-    ((start c).requires.0, omega arith, stands_level (start c).requires.1 stands)
+    (c.requires.0, omega arith, stands_level c.requires.1 stands)
 
 pub shape_of-work-in-Miss : goal.shape_of-work-in-Miss
-shape_of-work-in-Miss c = c.loop-i.invariant.2.len ∙ (pushed c).push.auto.0
+shape_of-work-in-Miss c = c.loop-i.invariant.2.len ∙ c.push.auto.work
 
 pub shape_of-heads-in-Miss : goal.shape_of-heads-in-Miss
-shape_of-heads-in-Miss c = c.loop-i.invariant.0 ∙ (pushed c).push.auto.1.0
+shape_of-heads-in-Miss c = c.loop-i.invariant.0 ∙ c.push.auto.heads
 
 pub shape_of-ends-in-Miss : goal.shape_of-ends-in-Miss
 shape_of-ends-in-Miss c = c.loop-i.invariant.1
@@ -39,19 +32,19 @@ shape_of-ends-in-Miss c = c.loop-i.invariant.1
 pub returns-in-Miss : goal.returns-in-Miss
 returns-in-Miss c =
     let miss = rw c.in-Miss.is at c.hunt-found.ensures in
-    record { is = ran_miss (start c).requires.1 c.loop-i.invariant.2 (pushed c).push.ensures.rest miss }
+    record { is = ran_miss c.requires.1 c.loop-i.invariant.2 c.push.ensures.rest miss }
 
 pub store_level-filled-requires : goal.store_level-filled-requires
 store_level-filled-requires c =
     let stands = c.loop-i.invariant.2 in
     let order = stands.standing.explored.order in
-    ((start c).requires.0, omega arith, stands_level (start c).requires.1 stands, stands.indexed, stands.marked)
+    (c.requires.0, omega arith, stands_level c.requires.1 stands, stands.indexed, stands.marked)
 
 pub shape_of-work-in-Full : goal.shape_of-work-in-Full
-shape_of-work-in-Full c = c.store_level-filled.auto.work ∙ c.loop-i.invariant.2.len ∙ (pushed c).push.auto.0
+shape_of-work-in-Full c = c.store_level-filled.auto.work ∙ c.loop-i.invariant.2.len ∙ c.push.auto.work
 
 pub shape_of-heads-in-Full : goal.shape_of-heads-in-Full
-shape_of-heads-in-Full c = c.store_level-filled.auto.heads ∙ c.loop-i.invariant.0 ∙ (pushed c).push.auto.1.0
+shape_of-heads-in-Full c = c.store_level-filled.auto.heads ∙ c.loop-i.invariant.0 ∙ c.push.auto.heads
 
 pub shape_of-ends-in-Full : goal.shape_of-ends-in-Full
 shape_of-ends-in-Full c = c.store_level-filled.auto.ends ∙ c.loop-i.invariant.1
@@ -60,13 +53,13 @@ pub returns-in-Full : goal.returns-in-Full
 returns-in-Full c =
     let clear = rw c.in-Clear.is at c.hunt-found.ensures in
     let full = rw c.in-Full.is at c.store_level-filled.ensures in
-    record { is = ran_full (start c).requires.1 c.loop-i.invariant.2 (pushed c).push.ensures.rest clear full }
+    record { is = ran_full c.requires.1 c.loop-i.invariant.2 c.push.ensures.rest clear full }
 
 pub shape_of-work-then-n-hi : goal.shape_of-work-then-n-hi
-shape_of-work-then-n-hi c = c.store_level-filled.auto.work ∙ c.loop-i.invariant.2.len ∙ (pushed c).push.auto.0
+shape_of-work-then-n-hi c = c.store_level-filled.auto.work ∙ c.loop-i.invariant.2.len ∙ c.push.auto.work
 
 pub shape_of-heads-then-n-hi : goal.shape_of-heads-then-n-hi
-shape_of-heads-then-n-hi c = c.store_level-filled.auto.heads ∙ c.loop-i.invariant.0 ∙ (pushed c).push.auto.1.0
+shape_of-heads-then-n-hi c = c.store_level-filled.auto.heads ∙ c.loop-i.invariant.0 ∙ c.push.auto.heads
 
 pub shape_of-ends-then-n-hi : goal.shape_of-ends-then-n-hi
 shape_of-ends-then-n-hi c = c.store_level-filled.auto.ends ∙ c.loop-i.invariant.1
@@ -75,7 +68,7 @@ pub returns-then-n-hi : goal.returns-then-n-hi
 returns-then-n-hi c =
     let clear = rw c.in-Clear.is at c.hunt-found.ensures in
     let done = rw c.in-Upto.is at c.store_level-filled.ensures in
-    record { is = ran_safe (start c).requires.1 c.loop-i.invariant.2 (pushed c).push.ensures.rest clear done c.if-n-hi.true }
+    record { is = ran_safe c.requires.1 c.loop-i.invariant.2 c.push.ensures.rest clear done c.if-n-hi.true }
 
 pub overflow_add-d : goal.overflow_add-d
 overflow_add-d c =
@@ -98,4 +91,4 @@ loop-i-preserved c =
     let clear = rw c.in-Clear.is at c.hunt-found.ensures in
     let done = rw c.in-Upto.is at c.store_level-filled.ensures in
     let store = c.store_level-filled in
-    (store.auto.heads ∙ c.loop-i.invariant.0, store.auto.ends ∙ c.loop-i.invariant.1, next_stands (start c).requires.1 c.loop-i.invariant.2 clear done c.if-n-hi.false)
+    (store.auto.heads ∙ c.loop-i.invariant.0, store.auto.ends ∙ c.loop-i.invariant.1, next_stands c.requires.1 c.loop-i.invariant.2 clear done c.if-n-hi.false)

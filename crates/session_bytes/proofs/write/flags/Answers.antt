@@ -13,16 +13,6 @@ use native.Mathlib.Omega.{arith}
 use borrow.Author.Rules.{rules}
 use Rattle.session_bytes.proofs.write.flags.Goals as goal
 
--- what a turn adds
-added :
-    (c : goal.After-weighed-sum invariant-loop decreases-loop)
-    → c.weighed-sum.result ≡ pick (mark_in c.args.x c.loop-i.i).set c.loop-i.weight 0
-added c =
-    let h = c in
-    let a = h.before.args in
-    let len : length a.x.marks ≡ 8 = search (rules, length_mapped) in
-    c.weighed-sum.ensures ∙ ap (λ mark. pick mark.set h.loop.weight 0) (any_default _ empty a.x.marks h.loop.i (omega arith))
-
 pub loop-i-init : goal.loop-i-init
 loop-i-init c = (omega arith, refl, bits_none (λ k. (mark_in c.args.x k).set))
 
@@ -31,7 +21,9 @@ overflow_add-sum c =
     let h = c.loop-i in
     let p : ℕ → Bool = λ k. (mark_in c.args.x k).set in
     omega
-    (arith, added c, h.invariant.1, h.invariant.2, bits_less p h.i, pow_mono {i = h.i} {j = 8} h.invariant.0, pick_most (p h.i) h.weight)
+    (arith, (let it : c.weighed-sum.result ≡ pick (mark_in c.args.x c.loop-i.i).set c.loop-i.weight 0 = let a = c.args in
+    let len : length a.x.marks ≡ 8 = search (rules, length_mapped) in
+    c.weighed-sum.ensures ∙ ap (λ mark. pick mark.set c.loop-i.weight 0) (any_default _ empty a.x.marks c.loop-i.i (omega arith)) in it), h.invariant.1, h.invariant.2, bits_less p h.i, pow_mono {i = h.i} {j = 8} h.invariant.0, pick_most (p h.i) h.weight)
 
 pub overflow_mul-weight : goal.overflow_mul-weight
 overflow_mul-weight c =
@@ -43,7 +35,9 @@ loop-i-preserved c =
     let h = c.loop-i in
     let e : 2 ^ (h.i + 1) ≡ 2 ^ suc h.i = ap (λ k. 2 ^ k) (omega arith) in
     let turn = bits_turn (λ k. (mark_in c.args.x k).set) h.i h.invariant.2 h.invariant.1 in
-    (omega arith, omega (arith, e, h.invariant.1, pow-suc 2 h.i), rw (added c) turn)
+    (omega arith, omega (arith, e, h.invariant.1, pow-suc 2 h.i), rw (let it : c.weighed-sum.result ≡ pick (mark_in c.args.x c.loop-i.i).set c.loop-i.weight 0 = let a = c.args in
+    let len : length a.x.marks ≡ 8 = search (rules, length_mapped) in
+    c.weighed-sum.ensures ∙ ap (λ mark. pick mark.set c.loop-i.weight 0) (any_default _ empty a.x.marks c.loop-i.i (omega arith)) in it) turn)
 
 pub overflow_cast-result : goal.overflow_cast-result
 overflow_cast-result c =
