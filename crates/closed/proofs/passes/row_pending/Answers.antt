@@ -19,12 +19,11 @@ use borrow.Author.Rules.{rules}
 use Rattle.closed.proofs.passes.row_pending.Goals as goal
 
 -- whether the masks are due, by the gap that was read
-due-is :
-    (g : goal.After-gap_at-gap invariant-loop decreases-loop) (released : Bool) {b : Bool} {at : ℕ}
-    → b ≡ (leb g.before.before.before.before.args.pass.low at && ltb at g.before.before.before.before.args.pass.high)
-    → at ≡ landing g.before.before.before.before.args.split.top g.gap_at.result released
-    → b ≡ (leb g.before.before.before.before.args.pass.low (landing g.before.before.before.before.args.split.top (get_or g.before.before.before.before.args.file.now (16 * g.before.before.before.before.args.i + 2 * g.before.before.before.before.args.split.task + 1) 0) released) && ltb (landing g.before.before.before.before.args.split.top (get_or g.before.before.before.before.args.file.now (16 * g.before.before.before.before.args.i + 2 * g.before.before.before.before.args.split.task + 1) 0) released) g.before.before.before.before.args.pass.high)
-due-is g released e f = rw (e, f, g.gap_at.ensures)
+due_is :
+    (low high top : ℕ) {gap read at : ℕ} (released : Bool) {b : Bool}
+    → read ≡ gap → b ≡ (leb low at && ltb at high) → at ≡ landing top read released
+    → b ≡ (leb low (landing top gap released) && ltb (landing top gap released) high)
+due_is low high top released is e f = rw (e, f, is)
 
 pub words_in-v-requires : goal.words_in-v-requires
 words_in-v-requires c =
@@ -41,7 +40,7 @@ returns-then-not-kept-released c =
     (
       omega arith,
       row_skipped c.args.t c.args.file.now c.args.split c.args.pass c.args.i
-          (due-is c false c.between-kept.ensures c.landing.ensures) (due-is c true c.between-released.ensures c.landing-2.ensures) (c.if-not-kept-released.true) c.args.n c.args.pending.now c.args.count,
+          (due_is c.args.pass.low c.args.pass.high c.args.split.top false c.gap_at-gap.ensures c.between-kept.ensures c.landing.ensures) (due_is c.args.pass.low c.args.pass.high c.args.split.top true c.gap_at-gap.ensures c.between-released.ensures c.landing-2.ensures) (c.if-not-kept-released.true) c.args.n c.args.pending.now c.args.count,
     )
 
 pub loop-m-init : goal.loop-m-init
@@ -76,8 +75,8 @@ pub returns : goal.returns
 returns c =
     (omega (arith, c.loop-m.invariant.0, c.loop-m.invariant.2.walked.most), row_end (let it : Row c.args.t c.args.ticker c.args.file.now c.args.split c.args.pass c.args.i c.between-kept.result c.between-released.result c.prepare-state.result c.free-free.result = let here : state_of c.words_in-v.result ≡ state_in c.args.file.now c.args.i = c.words_in-v.ensures in
     record {
-      keeps = due-is c false c.between-kept.ensures c.landing.ensures;
-      releases = due-is c true c.between-released.ensures c.landing-2.ensures;
-      ticks = λ q. ticks c.args.t _ c.pre.1 c.prepare-state.ensures c.pre.0.valid (ap (improper c.args.t) here ∙ c.pre.5) (let it : WordList c.words_in-v.result = record { word = λ i h. search rules } in it) q ∙ ap (λ u. after c.args.t u q) here;
-      frees = frees c.args.t _ c.pre.1 c.free-free.ensures ∙ ap (free_mask c.args.t) here;
+      keeps = due_is c.args.pass.low c.args.pass.high c.args.split.top false c.gap_at-gap.ensures c.between-kept.ensures c.landing.ensures;
+      releases = due_is c.args.pass.low c.args.pass.high c.args.split.top true c.gap_at-gap.ensures c.between-released.ensures c.landing-2.ensures;
+      ticks = λ q. ticks c.args.t _ c.requires.1 c.prepare-state.ensures c.requires.0.valid (ap (improper c.args.t) here ∙ c.requires.5) (let it : WordList c.words_in-v.result = record { word = λ i h. search rules } in it) q ∙ ap (λ u. after c.args.t u q) here;
+      frees = frees c.args.t _ c.requires.1 c.free-free.ensures ∙ ap (free_mask c.args.t) here;
     } in it) c.requires.0.is c.requires.4 c.loop-m.invariant.2 c.loop-m-test.false)
