@@ -18,6 +18,7 @@ use Rattle.search.proofs.HuntLaws.{CalmTo, calm_end, hunt_turn, miss_from}
 use native.Mathlib.Omega.{arith}
 use borrow.Author.Rules.{rules}
 use Rattle.search.proofs.hunt.hunt.Goals as goal
+use Rattle.search.proofs.hunt.hunt.Goals.{then-has_miss+else-loop-m-test, else-has_miss}
 
 pub hunt-init : goal.hunt-init
 hunt-init c = let r = c.requires in (omega arith, omega arith, hunt_start (system _))
@@ -57,10 +58,10 @@ hunt-preserved c =
     let s = state_in a.work.now h.i in
     let proper = level.proper h.i below in
     let calm : Calm (system a.t) s =
-    ⊎_elim
-    (λ w. calm_end a.t level.valid s proper (rw (← w.3.inv.1) w.3.inv.0) w.4.left)
-    (λ w. calm_by a.t level.valid s proper c.words_in-v.ensures c.requires.0 (let it : WordList c.words_in-v.result = record { word = λ i h. search rules } in it) (sym c.has_miss.ensures ∙ w.left))
-    c.if-has_miss.branch in
+    elim c.if-has_miss.branch [
+      then-has_miss+else-loop-m-test w ↦ calm_end a.t level.valid s proper (rw (← w.loop-m.invariant.1) w.loop-m.invariant.0) w.loop-m-test.false
+    | else-has_miss w ↦ calm_by a.t level.valid s proper c.words_in-v.ensures c.requires.0 (record { word = λ i h. search rules }) (sym c.has_miss.ensures ∙ w.if-has_miss.false)
+    ] in
     (omega arith, omega arith, hunt_turn a.t a.work.now h.invariant.2 calm)
 
 pub returns-then-i-hi : goal.returns-then-i-hi

@@ -14,14 +14,11 @@ use native.Mathlib.Omega.{arith}
 use borrow.Author.Rules.{rules}
 use Rattle.search.proofs.index.push.Goals as goal
 
-heads-fit : (c : goal.After-slice_known-2-1) (b : ℕ) → get_or c.args.heads.now b 0 < 4294967296
-heads-fit c b = let f = c.slice_known-2-1.given b in omega arith
-
 pub put_slot-requires : goal.put_slot-requires
 put_slot-requires c = let x = c.requires in (x.1, x.0.fits)
 
 pub overflow_mul-heads : goal.overflow_mul-heads
-overflow_mul-heads c = let f = tags_fit _ _ (heads-fit c c.bucket-b.result) c.tag_bit.ensures.1 in omega arith
+overflow_mul-heads c = let heads_fit : (b : ℕ) → get_or c.args.heads.now b 0 < 4294967296 = λ b. omega (arith, c.slice_known-2-1.given b) in let f = tags_fit _ _ (heads_fit c.bucket-b.result) c.tag_bit.ensures.1 in omega arith
 
 pub overflow_add-heads : goal.overflow_add-heads
 overflow_add-heads c = let x = c.requires in let n = x.1 in let k = x.0.few in omega arith
@@ -30,7 +27,7 @@ pub overflow_cast-heads : goal.overflow_cast-heads
 overflow_cast-heads c = let x = c.requires in let n = x.1 in let k = x.0.few in omega arith
 
 pub overflow_add-heads-2 : goal.overflow_add-heads-2
-overflow_add-heads-2 c = let f = tags_fit _ _ (heads-fit c c.bucket-b.result) c.tag_bit.ensures.1 in let x = c.requires in let n = x.1 in let k = x.0.few in omega arith
+overflow_add-heads-2 c = let heads_fit : (b : ℕ) → get_or c.args.heads.now b 0 < 4294967296 = λ b. omega (arith, c.slice_known-2-1.given b) in let f = tags_fit _ _ (heads_fit c.bucket-b.result) c.tag_bit.ensures.1 in let x = c.requires in let n = x.1 in let k = x.0.few in omega arith
 
 pub returns : goal.returns
 unfolding bucket_of newest tags_in tag_of

@@ -17,8 +17,7 @@ overflow_add-result c =
 
 pub returns-in-Missed : goal.returns-in-Missed
 returns-in-Missed c =
-    let told = c.end-1.given in
-    rw told.1 (ap (λ l. SearchAnswer.Unsafe l told.0.1.1.1.0) (add-one told.0.1.1.0), c.write_trace.ensures)
+    rw c.in-Missed.is (ap (λ l. SearchAnswer.Unsafe l c.in-Missed.n) (add-one c.in-Missed.d), c.write_trace.ensures)
 
 pub returns-in-Closed : goal.returns-in-Closed
 returns-in-Closed c = rw c.in-Closed.is (refl, refl)

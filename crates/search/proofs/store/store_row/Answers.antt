@@ -14,6 +14,7 @@ use Rattle.search.proofs.StoreLaws.{RowBy, row_start, row_known, row_added, row_
 use native.Mathlib.Omega.{arith}
 use borrow.Author.Rules.{rules}
 use Rattle.search.proofs.store.store_row.Goals as goal
+use Rattle.search.proofs.store.store_row.Goals.{in-Nothing, in-New}
 
 pub words_in-v-requires : goal.words_in-v-requires
 words_in-v-requires c =
@@ -64,24 +65,24 @@ pub loop-m-preserved : goal.loop-m-preserved
 loop-m-preserved c =
     let b = c.loop-m-test.true in
     let call = c.try_mask-a in
-    ⊎_elim
-    (λ w. (
-      omega arith,
+    elim c.match-a.branch [
+      in-Nothing w ↦ (
+      omega (arith, w.n-is),
       call.auto.heads ∙ c.loop-m.invariant.1,
       λ t e ready.
           let x = c.loop-m.invariant.2 t e ready in
-          let y = rw w.1.given.1 at (rw (x.ticks _) at call.ensures) in
-          record { is = x.is; ticks = x.ticks; row = rw (c.follow-m.ensures, w.2) (row_known ready x.row x.is b y) },
-    ))
-    (λ w. (
-      omega arith,
+          let y = rw w.in-Nothing.is at (rw (x.ticks _) at call.ensures) in
+          record { is = x.is; ticks = x.ticks; row = rw (c.follow-m.ensures, w.n-is) (row_known ready x.row x.is b y) },
+    )
+    | in-New w ↦ (
+      omega (arith, w.n-is),
       call.auto.heads ∙ c.loop-m.invariant.1,
       λ t e ready.
           let x = c.loop-m.invariant.2 t e ready in
-          let y = rw w.1.given.1 at (rw (x.ticks _) at call.ensures) in
-          record { is = x.is; ticks = x.ticks; row = rw (c.follow-m.ensures, w.2) (row_added ready x.row x.is b y) },
-    ))
-    c.in-Nothing.branch
+          let y = rw w.in-New.is at (rw (x.ticks _) at call.ensures) in
+          record { is = x.is; ticks = x.ticks; row = rw (c.follow-m.ensures, w.n-is) (row_added ready x.row x.is b y) },
+    )
+    ]
 
 pub shape_of-work : goal.shape_of-work
 shape_of-work c = (let it : RowBy c.args.t c.args.ticker c.prepare-state.result c.args.k c.args.work.now c.loop-m.work c.loop-m.heads c.args.from c.loop-m.n c.args.i c.free-free.result c.loop-m.m = c.loop-m.invariant.2 c.args.t c.requires.0 c.requires.1 in it).row.kept.len
