@@ -1,0 +1,16 @@
+use Prim.Native.Nat.{◌+◌, ◌-◌, ◌*◌, ◌≤◌}
+use mathlib.Core.Path.{refl}
+use lib.ListN.{get_or}
+use Rattle.lists.proofs.Fill.{Filled, filled_start, filled_store, filled_end}
+use native.Mathlib.Omega.{arith}
+use borrow.Author.Rules.{rules}
+use Rattle.ronchhek.proofs.tables.column.Goals as goal
+
+pub loop-i-init : goal.loop-i-init
+loop-i-init c = (omega arith, filled_start refl)
+
+pub loop-i-preserved : goal.loop-i-preserved
+loop-i-preserved c = (omega arith, filled_store c.loop-i.invariant.1 (omega arith) refl)
+
+pub returns : goal.returns
+returns c = filled_end c.loop-i.invariant.1 c.loop-i-test.false

@@ -1,0 +1,15 @@
+-- The figures of the search of the sheet, packed. Assumes nothing.
+use Prim.Native.Nat.{◌-◌}
+use Rattle.search.specs.Claim.{figures}
+use Rattle.search.proofs.ClaimLaws.{slots_few}
+use Rattle.ronchhek.proofs.VerdictLaws.{search_low}
+use borrow.Author.Rules.{rules}
+use Rattle.ronchhek.proofs.verdicts.ronchhek_verdict.Goals as goal
+
+pub pack-requires : goal.pack-requires
+pack-requires c = search_low (slots_few _) c.search_sheet-a.ensures
+
+pub returns : goal.returns
+returns c =
+    let p = c.pack.ensures in
+    record { answer = figures c.search_sheet-a.result; search = c.search_sheet-a.ensures; is = p.0; L_fits = p.1; N_fits = p.2 }
