@@ -1,0 +1,16 @@
+-- The invariant: what is left to store, stored from the present place, is the whole. Assumes nothing.
+use Prim.Native.Nat.{◌+◌, ◌-◌, ◌≤◌}
+use mathlib.Core.List.{[]}
+use lib.ListN.{length, get_or, drop}
+use Rattle.tasks.proofs.Stores.{Storing, storing_start, storing_step, storing_room, storing_end}
+use Rattle.lines.specs.Lines.{line, mask_lines}
+use Rattle.lines.proofs.LineLaws.{masks_turn, masks_end}
+use native.Mathlib.Omega.{arith}
+use borrow.Author.Rules.{rules}
+use Rattle.lines.proofs.text.put_masks.Given as goal
+
+abbrev pub invariant-loop-i : goal.invariant-loop-i
+invariant-loop-i l = (l.i ≤ length l.masks) × Storing l.initial.out l.from (mask_lines l.masks) l.out l.at (mask_lines (drop l.i l.masks))
+
+abbrev pub decreases-loop-i : goal.decreases-loop-i
+decreases-loop-i l = length l.masks - l.i
