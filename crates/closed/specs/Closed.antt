@@ -12,7 +12,6 @@ use Rattle.tasks.specs.declared.tick.TickAnswer.TheVariants as Answer
 use Rattle.levels.specs.Verdict.{Holds}
 use Rattle.states.specs.Bytes.{state_in}
 use Rattle.closed.specs.declared.check.ClosedAnswer.{ClosedAnswer}
-use Rattle.closed.specs.declared.check.ClosedAnswer.TheVariants as ClosedAnswer
 
 -- ---- the states of a file
 

@@ -6,7 +6,6 @@ use native.Mathlib.Omega.{arith}
 use lib.ListN.{get_or}
 use Rattle.closed.specs.Closed.{closed_answer, sheet_file_refusal, SheetJudged}
 use Rattle.closed.specs.declared.check.ClosedAnswer.{ClosedAnswer}
-use Rattle.closed.specs.declared.check.ClosedAnswer.TheVariants as ClosedAnswer
 use Rattle.ronchhek.specs.Files.{FileJudged}
 
 -- the number of a file's answer

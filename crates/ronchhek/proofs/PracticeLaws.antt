@@ -2,11 +2,11 @@
 -- back. Assumes nothing.
 use Prim.Native.Nat.{ℕ, ◌+◌, ◌^◌, ◌≤◌, ◌<◌}
 use mathlib.Core.Path.{◌≡◌, refl, ap, ◌∙◌}
-use mathlib.Core.List.{List, ◌++◌}
+use mathlib.Core.List.{List}
 use lib.ListN.{length, take, drop}
 use lib.Seq.{take_at}
 use borrow.Author.Tests.{lt-ltb, le-ltb}
-use Rattle.tasks.specs.Sheet.{accepted_as, sheet_of, sheet_bytes, write_refusal, write_out}
+use Rattle.tasks.specs.Sheet.{accepted_as, sheet_of, write_refusal, write_out}
 use Rattle.tasks.specs.declared.sheet.Reading.TheVariants as Reading
 use Rattle.practice.specs.Practice.{practice_table, practice_refusal, practice_of}
 use Rattle.practice.proofs.Theorems.{practice_fault, practice_read, answer_refused}

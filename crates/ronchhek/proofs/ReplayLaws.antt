@@ -11,7 +11,6 @@ use Rattle.tasks.specs.declared.table.Table.{Table}
 use Rattle.tasks.specs.declared.play.Outcome.{Outcome}
 use Rattle.tasks.specs.declared.play.ReplayAnswer.TheVariants.{Played, Refused}
 use Rattle.tasks.specs.declared.writer.Writing.{Writing}
-use Rattle.tasks.specs.declared.writer.Writing.TheVariants as Writing
 use Rattle.lists.specs.Lists.{pick}
 use Rattle.lists.proofs.Bools.{by_bool}
 use Rattle.tasks.specs.declared.play.Replayed.{Replayed}

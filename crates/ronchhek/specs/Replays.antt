@@ -8,7 +8,6 @@ use Rattle.tasks.specs.Replay.{replayed}
 use Rattle.tasks.specs.declared.table.Table.{Table}
 use Rattle.tasks.specs.declared.state.State.{State}
 use Rattle.tasks.specs.declared.sheet.Reading.{Reading}
-use Rattle.tasks.specs.declared.sheet.Reading.TheVariants as Reading
 use Rattle.tasks.specs.declared.play.Outcome.{Outcome}
 use Rattle.tasks.specs.declared.play.Outcome.TheVariants.{Kept, Missed}
 use Rattle.tasks.specs.declared.play.ReplayAnswer.{ReplayAnswer}

@@ -5,7 +5,6 @@ use Rattle.lists.specs.Lists.{eight, pick}
 use Rattle.tasks.specs.Sheet.{sheet_of, sheet_bytes, write_refusal, write_out}
 use Rattle.tasks.specs.declared.table.Table.{Table}
 use Rattle.tasks.specs.declared.sheet.Reading.{Reading}
-use Rattle.tasks.specs.declared.sheet.Reading.TheVariants as Reading
 
 -- ---- a table's 27 bytes
 

@@ -13,7 +13,6 @@ use Rattle.tasks.specs.Table.{table_fault}
 use Rattle.tasks.specs.Sheet.{sheet_of, after_reading}
 use Rattle.tasks.specs.declared.table.Table.{Table}
 use Rattle.tasks.specs.declared.sheet.Reading.{Reading}
-use Rattle.tasks.specs.declared.sheet.Reading.TheVariants as Reading
 use Rattle.levels.specs.Verdict.{Answer, Verdict}
 use Rattle.levels.specs.Verdict.Answer.{Unsafe, Safe, NoRoom}
 use Rattle.levels.specs.Slots.{count_of, masks_of}
@@ -28,10 +27,8 @@ use Rattle.slots.proofs.RunningLaws.{marked_start}
 use Rattle.search.specs.Claim.{slots_of, slots_in, spaces_refusal, table_refusal, sheet_refusal, Figures, figures, refusal_figures, Replays, Searched, Found, Search}
 use Rattle.search.specs.Keeping.{Ran, RanIs, RanBy, written_by, ReportReady, ReportIs, Lent, Fresh, Finishing}
 use Rattle.search.specs.declared.run.End.{End}
-use Rattle.search.specs.declared.run.End.TheVariants as End
 use Rattle.search.proofs.ReportLaws.{traced_front, traced_rest}
 use Rattle.search.specs.declared.run.SearchAnswer.{SearchAnswer}
-use Rattle.search.specs.declared.run.SearchAnswer.TheVariants as SearchAnswer
 use Rattle.states.proofs.SystemLaws.{replay_missed}
 
 -- ---- the replay of the masks given

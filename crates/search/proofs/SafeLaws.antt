@@ -11,7 +11,6 @@ use Rattle.tasks.specs.Table.{table_fault}
 use Rattle.tasks.specs.Sheet.{sheet_of, after_reading}
 use Rattle.tasks.specs.declared.table.Table.{Table}
 use Rattle.tasks.specs.declared.sheet.Reading.{Reading}
-use Rattle.tasks.specs.declared.sheet.Reading.TheVariants as Reading
 use Rattle.tasks.proofs.Listed.{sheet_refusal_lem}
 use Rattle.levels.specs.Verdict.{Answer}
 use Rattle.levels.specs.Verdict.Answer.{Unsafe, Safe, NoRoom}

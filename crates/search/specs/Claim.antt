@@ -14,7 +14,6 @@ use Rattle.levels.specs.Slots.{SlotRule, Stored, Complete, count_of, masks_of}
 use Rattle.states.specs.System.{system}
 use Rattle.slots.specs.Layout.{Layout, columns, state_at, parent_at, mask_at, Zeros, Stays}
 use Rattle.search.specs.declared.run.SearchAnswer.{SearchAnswer}
-use Rattle.search.specs.declared.run.SearchAnswer.TheVariants as SearchAnswer
 
 -- ---- K and the refusals
 

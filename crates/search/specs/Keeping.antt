@@ -20,13 +20,9 @@ use Rattle.search.specs.Indexed.{Indexed, Pushed}
 use Rattle.search.specs.declared.hunt.HuntAnswer.{HuntAnswer}
 use Rattle.search.specs.declared.hunt.HuntAnswer.TheVariants.{Miss, Clear}
 use Rattle.search.specs.declared.store.Attempt.{Attempt}
-use Rattle.search.specs.declared.store.Attempt.TheVariants as Attempt
 use Rattle.search.specs.declared.store.Filled.{Filled}
-use Rattle.search.specs.declared.store.Filled.TheVariants as Filled
 use Rattle.search.specs.declared.run.End.{End}
-use Rattle.search.specs.declared.run.End.TheVariants as End
 use Rattle.search.specs.declared.run.SearchAnswer.{SearchAnswer}
-use Rattle.search.specs.declared.run.SearchAnswer.TheVariants as SearchAnswer
 
 -- ---- levels' invariants over the slots of a work space
 

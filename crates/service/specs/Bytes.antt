@@ -2,7 +2,6 @@
 use Rattle.std.specs.Prelude.{ℕ, zero, suc, ◌+◌, ◌*◌, ◌/◌, ◌%◌, List, [], ◌∷◌, ◌++◌, ltb, length, get_or, drop}
 use Rattle.lists.specs.Lists.{pick}
 use Rattle.tasks.specs.declared.writer.Writing.{Writing}
-use Rattle.tasks.specs.declared.writer.Writing.TheVariants as Writing
 use Rattle.service.specs.declared.totals.Totals.{Totals}
 
 -- a number in k bytes, low byte first

@@ -22,7 +22,7 @@ use Rattle.session.specs.Record.Stored.{Nothing, Listed}
 use Rattle.session.specs.declared.marks.Mark.{Mark}
 use Rattle.session.specs.declared.marks.Session.{Session}
 use Rattle.session.specs.declared.calls.SessionAnswer.{SessionAnswer}
-use Rattle.session.specs.declared.calls.SessionAnswer.TheVariants.{Done, Missed, Refused}
+use Rattle.session.specs.declared.calls.SessionAnswer.TheVariants.{Done, Refused}
 use Rattle.session.specs.declared.calls.Call.{Call}
 use Rattle.session.specs.declared.calls.Call.TheVariants.{Step, SetMark, ReturnTo}
 use Rattle.session.specs.declared.calls.Called.{Called}

@@ -9,7 +9,7 @@ use native.Mathlib.Omega.{arith}
 use native.Mathlib.Decide.{ℕ_discrete}
 use lib.ListN.{length, get_or}
 use lib.Seq.{sets, length-sets}
-use Rattle.lists.specs.Lists.{eight, bits_of}
+use Rattle.lists.specs.Lists.{bits_of}
 use Rattle.tasks.specs.Table.{table_fault}
 use Rattle.tasks.specs.Tick.{bit}
 use Rattle.tasks.specs.Sheet.{sheet_of}

@@ -6,7 +6,6 @@ use Rattle.lists.specs.Lists.{eight, pick, bits_of}
 use Rattle.tasks.specs.Tick.{bit}
 use Rattle.tasks.specs.Sheet.{sheet_of}
 use Rattle.tasks.specs.declared.sheet.Reading.{Reading}
-use Rattle.tasks.specs.declared.sheet.Reading.TheVariants as Reading
 use Rattle.states.specs.Bytes.{state_from, state_bytes}
 use Rattle.session.specs.Session.{empty, mark_in, outcome}
 use Rattle.session.specs.declared.marks.Mark.{Mark}

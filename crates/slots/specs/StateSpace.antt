@@ -3,7 +3,6 @@ use Rattle.std.specs.Prelude.{List, ◌++◌, ℕ, ltb, length, drop}
 use Rattle.lists.specs.Lists.{pick}
 use Rattle.tasks.specs.declared.state.State.{State}
 use Rattle.tasks.specs.declared.writer.Writing.{Writing}
-use Rattle.tasks.specs.declared.writer.Writing.TheVariants as Writing
 use Rattle.states.specs.Bytes.{state_bytes}
 
 -- the answer

@@ -13,9 +13,7 @@ use Rattle.tasks.specs.declared.table.Table.{Table}
 use Rattle.tasks.specs.declared.tick.TickAnswer.{TickAnswer}
 use Rattle.tasks.specs.declared.tick.TickAnswer.TheVariants as Answer
 use Rattle.tasks.specs.declared.play.Outcome.{Outcome}
-use Rattle.tasks.specs.declared.play.Outcome.TheVariants as Outcome
 use Rattle.tasks.specs.declared.play.ReplayAnswer.{ReplayAnswer}
-use Rattle.tasks.specs.declared.play.ReplayAnswer.TheVariants as ReplayAnswer
 use Rattle.tasks.specs.declared.play.Replayed.{Replayed}
 use Rattle.lists.proofs.Bools.{by_bool}
 use Rattle.tasks.proofs.Proper.{start_proper}

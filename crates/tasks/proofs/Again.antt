@@ -1,6 +1,6 @@
 -- The round trips of the two calls: what the writer leaves of an accepted sheet's table, and what the reader finds in a valid
 -- table's sheet. Assumes nothing.
-use Prim.Native.Nat.{ℕ, ◌+◌, ◌≤◌, ◌<◌}
+use Prim.Native.Nat.{ℕ, ◌≤◌, ◌<◌}
 use mathlib.Core.Path.{◌≡◌, sym, ap, ◌∙◌}
 use mathlib.Core.List.{List, ◌++◌}
 use native.Mathlib.Omega.{arith}
@@ -13,7 +13,6 @@ use Rattle.tasks.specs.Answers.{writing_answer}
 use Rattle.tasks.specs.Sheet.{refused_with, accepted_as, sheet_of, sheet_bytes, write_answer, write_out, copy_answer, copy_out, table_again}
 use Rattle.tasks.specs.declared.table.Table.{Table}
 use Rattle.tasks.specs.declared.sheet.Reading.{Reading}
-use Rattle.tasks.specs.declared.sheet.Reading.TheVariants as Reading
 use Rattle.tasks.specs.declared.writer.Writing.TheVariants.{Written, Refused}
 use Rattle.lists.proofs.Bools.{by_bool}
 use Rattle.tasks.proofs.Answers.{writing_is}

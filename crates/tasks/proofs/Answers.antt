@@ -12,12 +12,9 @@ use Rattle.tasks.specs.Sheet.{refused_with, accepted_as, unless_refused}
 use Rattle.tasks.specs.Answers.{number_answer, reading_answer, sheet_answer, writing_answer, tick_figures, tick_answer, replay_figures, replay_answer}
 use Rattle.tasks.specs.declared.table.Table.{Table}
 use Rattle.tasks.specs.declared.number.Number.{Number}
-use Rattle.tasks.specs.declared.number.Number.TheVariants as Number
 use Rattle.tasks.specs.declared.sheet.Reading.{Reading}
-use Rattle.tasks.specs.declared.sheet.Reading.TheVariants as Reading
 use Rattle.tasks.specs.declared.sheet.Sheet.{Sheet}
 use Rattle.tasks.specs.declared.writer.Writing.{Writing}
-use Rattle.tasks.specs.declared.writer.Writing.TheVariants as Writing
 use Rattle.tasks.specs.declared.state.State.{State}
 use Rattle.tasks.specs.declared.tick.TickAnswer.{TickAnswer}
 use Rattle.tasks.specs.declared.tick.TickAnswer.TheVariants as Tick

@@ -16,7 +16,6 @@ use Rattle.tasks.specs.declared.table.Table.{Table}
 use Rattle.tasks.specs.declared.sheet.Sheet.{Sheet}
 use Rattle.tasks.specs.declared.sheet.Task.{Task}
 use Rattle.tasks.specs.declared.sheet.TaskRead.{TaskRead}
-use Rattle.tasks.specs.declared.sheet.TaskRead.TheVariants as TaskRead
 use Rattle.lists.proofs.Bools.{by_bool}
 use Rattle.tasks.proofs.Groups.{no_value}
 use Rattle.tasks.proofs.Fields.{field_read}

@@ -12,13 +12,10 @@ use Rattle.tasks.specs.Number.{above, number_in, number_at}
 use Rattle.tasks.specs.Sheet.{ruled, field_at, and_then, task_of, task_then, task_at, with_task, after_task, tasks_from, from_tasks, from_policy, sheet_of, empty_table, accepted_as}
 use Rattle.tasks.specs.declared.table.Table.{Table}
 use Rattle.tasks.specs.declared.number.Number.{Number}
-use Rattle.tasks.specs.declared.number.Number.TheVariants as Number
 use Rattle.tasks.specs.declared.sheet.Reading.{Reading}
-use Rattle.tasks.specs.declared.sheet.Reading.TheVariants as Reading
 use Rattle.tasks.specs.declared.sheet.Sheet.{Sheet}
 use Rattle.tasks.specs.declared.sheet.Task.{Task}
 use Rattle.tasks.specs.declared.sheet.TaskRead.{TaskRead}
-use Rattle.tasks.specs.declared.sheet.TaskRead.TheVariants as TaskRead
 
 abbrev Listed : ℕ → Type 0
 Listed r = (0 < r) × (r ≤ 8)

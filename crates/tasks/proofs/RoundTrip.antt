@@ -1,14 +1,14 @@
 -- Round trips: an accepted sheet is the sheet of the table that it gives, and the sheet of a valid table gives that table.
 -- Assumes nothing.
-use Prim.Native.Nat.{ℕ, zero, suc, ◌+◌, ◌-◌, ◌≤◌, ◌<◌}
+use Prim.Native.Nat.{ℕ, zero, suc, ◌+◌, ◌≤◌, ◌<◌}
 use mathlib.Core.Path.{◌≡◌, refl, sym, ap, ap₂, ◌∙◌}
 use mathlib.Core.List.{List, ◌++◌, append_assoc}
 use native.Mathlib.Omega.{arith}
 use native.Mathlib.Decide.{ℕ_discrete}
 use lib.Dec.{ltb}
-use lib.ListN.{length, get_or, set, drop, length-append, length-drop, length-set, drop_of_length-le}
+use lib.ListN.{length, get_or, drop, length-append, length-drop, length-set, drop_of_length-le}
 use lib.Seq.{drop-drop, drop-append_seam, get_or-set_same, get_or-set_other, ext_get_or}
-use borrow.Author.Tests.{lt-ltb, le-ltb, ltb-true, ltb-false}
+use borrow.Author.Tests.{le-ltb, ltb-false}
 use Rattle.lists.specs.Lists.{pick, front}
 use Rattle.tasks.specs.Table.{last_policy, breaks, table_fault}
 use Rattle.tasks.specs.Number.{number_bytes, number_at}
@@ -19,7 +19,6 @@ use Rattle.tasks.specs.declared.table.Table.{Table}
 use Rattle.tasks.specs.declared.sheet.Sheet.{Sheet}
 use Rattle.tasks.specs.declared.sheet.Task.{Task}
 use Rattle.tasks.specs.declared.sheet.TaskRead.{TaskRead}
-use Rattle.tasks.specs.declared.sheet.TaskRead.TheVariants as TaskRead
 use Rattle.lists.proofs.Bools.{by_bool}
 use Rattle.lists.proofs.Fill.{eight_at, front_at, front_more}
 use Rattle.tasks.proofs.Groups.{Stands, number_stands, number_read}

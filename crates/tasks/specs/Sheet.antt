@@ -9,11 +9,9 @@ use Rattle.tasks.specs.declared.number.Number.{Number}
 use Rattle.tasks.specs.declared.number.Number.TheVariants.{Value, Refused}
 use Rattle.tasks.specs.declared.table.Table.{Table}
 use Rattle.tasks.specs.declared.sheet.Reading.{Reading}
-use Rattle.tasks.specs.declared.sheet.Reading.TheVariants as Reading
 use Rattle.tasks.specs.declared.sheet.Sheet.{Sheet}
 use Rattle.tasks.specs.declared.sheet.Task.{Task}
 use Rattle.tasks.specs.declared.sheet.TaskRead.{TaskRead}
-use Rattle.tasks.specs.declared.sheet.TaskRead.TheVariants as TaskRead
 
 -- a table of n tasks before any is read
 abbrev pub empty_table : ℕ → ℕ → ℕ → Table

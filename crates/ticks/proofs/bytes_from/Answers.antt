@@ -1,5 +1,5 @@
-use Rattle.std.proofs.Common.{◌+◌, ◌-◌, ◌≤◌, get_or, refl, arith, rules}
-use Rattle.lists.proofs.Fill.{Filled, filled_start, filled_store, filled_end}
+use Rattle.std.proofs.Common.{refl, arith}
+use Rattle.lists.proofs.Fill.{filled_start, filled_store, filled_end}
 use Rattle.ticks.proofs.bytes_from.Goals as goal
 
 pub loop-i-init : goal.loop-i-init

@@ -1,5 +1,5 @@
-use Rattle.std.proofs.Common.{◌+◌, ◌-◌, ◌≤◌, get_or, refl, arith, rules}
-use Rattle.lists.proofs.Fill.{Filled, filled_start, filled_store, filled_end}
+use Rattle.std.proofs.Common.{◌+◌, ◌-◌, ◌≤◌, get_or}
+use Rattle.lists.proofs.Fill.{Filled}
 use Rattle.ticks.proofs.bytes_from.Given as goal
 
 abbrev pub invariant-loop-i : goal.invariant-loop-i

@@ -1,6 +1,5 @@
 use Rattle.ticks.specs.Ticks.{figure}
 use Rattle.ticks.proofs.Sums.{bool_number}
-use Rattle.std.proofs.Common.{rules}
 use Rattle.ticks.proofs.figure.Goals as goal
 
 pub returns : goal.returns

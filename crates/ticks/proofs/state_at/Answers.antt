@@ -1,5 +1,4 @@
 use Rattle.ticks.specs.Ticks.{state_in}
-use Rattle.std.proofs.Common.{rules}
 use Rattle.ticks.proofs.state_at.Goals as goal
 
 pub returns : goal.returns

@@ -1,5 +1,4 @@
 use Rattle.ticks.specs.Ticks.{table_of}
-use Rattle.std.proofs.Common.{rules}
 use Rattle.ticks.proofs.table_of.Goals as goal
 
 pub returns : goal.returns

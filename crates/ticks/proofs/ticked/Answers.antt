@@ -1,4 +1,3 @@
-use Rattle.std.proofs.Common.{rules}
 use Rattle.ticks.proofs.ticked.Goals as goal
 
 pub returns : goal.returns

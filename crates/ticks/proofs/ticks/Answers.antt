@@ -1,5 +1,5 @@
-use Rattle.std.proofs.Common.{◌≡◌, ℕ, zero, suc, ◌-◌, ◌<◌, ◌≤◌, refl, arith, rules, lt-ltb}
-use Rattle.ticks.specs.Ticks.{tick_of, sum, ticks_sum}
+use Rattle.std.proofs.Common.{◌≡◌, ℕ, zero, suc, ◌<◌, refl, arith, lt-ltb}
+use Rattle.ticks.specs.Ticks.{tick_of, ticks_sum}
 use Rattle.ticks.proofs.Sums.{pairs_room, sum_start, sum_turn, sum_end}
 use Rattle.ticks.proofs.ticks.Goals as goal
 

@@ -1,9 +1,7 @@
 -- The invariant: the length is kept. Assumes nothing.
 use Prim.Native.Nat.{◌-◌, ◌≤◌}
-use mathlib.Core.Path.{◌≡◌, refl, ◌∙◌}
-use lib.ListN.{length, length-set}
-use native.Mathlib.Omega.{arith}
-use borrow.Author.Rules.{rules}
+use mathlib.Core.Path.{◌≡◌}
+use lib.ListN.{length}
 use Rattle.closed.proofs.cells.clear.Given as goal
 
 abbrev pub invariant-loop-k : goal.invariant-loop-k

@@ -1,5 +1,4 @@
 -- The walk along the cells, or a scan. Assumes nothing.
-use borrow.Author.Rules.{rules}
 use Rattle.closed.proofs.cells.holds.Goals as goal
 
 pub returns-in-Found : goal.returns-in-Found

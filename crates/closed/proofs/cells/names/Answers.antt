@@ -4,7 +4,6 @@ use mathlib.Core.Path.{ap, ◌∙◌}
 use Rattle.states.specs.Keys.{same_keys}
 use Rattle.closed.proofs.FileLaws.{named}
 use native.Mathlib.Omega.{arith}
-use borrow.Author.Rules.{rules}
 use Rattle.closed.proofs.cells.names.Goals as goal
 
 pub returns-then-n-i : goal.returns-then-n-i

@@ -1,5 +1,3 @@
-use Prim.Native.Nat.{◌-◌, ◌≤◌}
-use borrow.Author.Rules.{rules}
 use Rattle.closed.proofs.cells.probe.Goals as goal
 
 pub returns-then-names : goal.returns-then-names

@@ -1,6 +1,5 @@
 -- The invariant: at most 256 cells are walked. Assumes nothing.
 use Prim.Native.Nat.{◌-◌, ◌≤◌}
-use borrow.Author.Rules.{rules}
 use Rattle.closed.proofs.cells.probe.Given as goal
 
 abbrev pub invariant-loop-k : goal.invariant-loop-k

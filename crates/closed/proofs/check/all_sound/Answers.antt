@@ -1,12 +1,9 @@
-use Prim.Native.Nat.{◌-◌, ◌≤◌}
 use mathlib.Core.Path.{◌≡◌}
 use mathlib.Core.Bool.{true, false}
-use borrow.Author.Tests.{not-true, not-false}
 use Rattle.states.specs.Bytes.{state_in}
 use Rattle.closed.specs.Keeping.{StateIs}
-use Rattle.closed.proofs.RowLaws.{SoundTo, sound_start, sound_next, sound_end, not_sound}
+use Rattle.closed.proofs.RowLaws.{sound_start, sound_next, sound_end, not_sound}
 use native.Mathlib.Omega.{arith}
-use borrow.Author.Rules.{rules}
 use Rattle.closed.proofs.check.all_sound.Goals as goal
 
 pub loop-i-init : goal.loop-i-init

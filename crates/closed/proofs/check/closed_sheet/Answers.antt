@@ -8,7 +8,6 @@ use Rattle.tasks.proofs.RoundTrip.{read_valid}
 use Rattle.closed.specs.Closed.{closed_answer}
 use Rattle.closed.proofs.AnswerLaws.{judged_refused, sheet_fault, sheet_read}
 use native.Mathlib.Omega.{arith}
-use borrow.Author.Rules.{rules}
 use Rattle.closed.proofs.check.closed_sheet.Goals as goal
 
 pub closed_valid-requires : goal.closed_valid-requires

@@ -1,7 +1,6 @@
 -- The table is refused, or it is valid and the file is judged. Assumes nothing.
 use Rattle.closed.specs.Closed.{closed_answer}
 use Rattle.closed.proofs.AnswerLaws.{judged_refused, table_fault_lem, table_valid}
-use borrow.Author.Rules.{rules}
 use Rattle.closed.proofs.check.closed_table.Goals as goal
 
 pub returns-then-fault-gt0 : goal.returns-then-fault-gt0

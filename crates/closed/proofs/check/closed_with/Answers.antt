@@ -1,13 +1,11 @@
 -- Sound states, the start state, and every pair inside. Assumes nothing.
 use mathlib.Core.Path.{◌≡◌}
 use mathlib.Core.Bool.{true, false}
-use borrow.Author.Tests.{not-true, not-false}
 use Rattle.tasks.specs.State.{start}
 use Rattle.tasks.specs.Words.{state_of}
 use Rattle.states.proofs.ColumnLaws.{held, held_key}
 use Rattle.closed.proofs.FileLaws.{start_bytes}
 use Rattle.closed.proofs.AnswerLaws.{closed_is}
-use borrow.Author.Rules.{rules}
 use Rattle.closed.proofs.check.closed_with.Goals as goal
 
 pub all_sound-requires : goal.all_sound-requires

@@ -1,10 +1,8 @@
-use Prim.Native.Nat.{◌-◌, ◌≤◌}
 use mathlib.Core.Path.{◌≡◌, sym, ap, ◌∙◌}
 use Rattle.states.specs.Keys.{same_keys, key_in}
 use Rattle.states.proofs.KeyLaws.{keys_same}
-use Rattle.closed.proofs.FileLaws.{Scanned, scanned_start, scanned_next, scanned_end}
+use Rattle.closed.proofs.FileLaws.{scanned_start, scanned_next, scanned_end}
 use native.Mathlib.Omega.{arith}
-use borrow.Author.Rules.{rules}
 use Rattle.closed.proofs.file.scan.Goals as goal
 
 pub loop-i-init : goal.loop-i-init

@@ -1,10 +1,6 @@
-use Prim.Native.Nat.{◌+◌, ◌-◌}
 use mathlib.Core.Path.{◌≡◌, refl, ◌∙◌}
 use mathlib.Core.Bool.{true, false}
-use borrow.Author.Tests.{not-true, not-false}
-use lib.ListN.{length}
-use Rattle.closed.specs.Keeping.{Inside}
-use Rattle.closed.proofs.InsideLaws.{BandsTo, bands_start, bands_next, bands_end}
+use Rattle.closed.proofs.InsideLaws.{bands_start, bands_next, bands_end}
 use Rattle.closed.proofs.RowLaws.{ready_cells}
 use native.Mathlib.Omega.{arith}
 use Rattle.closed.proofs.passes.all_inside.Goals as goal

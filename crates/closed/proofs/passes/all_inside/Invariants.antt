@@ -1,13 +1,9 @@
 -- The invariant: the pairs of the bands passed lead to states of the file. Assumes nothing.
 use Prim.Native.Nat.{◌+◌, ◌-◌}
-use mathlib.Core.Path.{◌≡◌, refl, ◌∙◌}
-use mathlib.Core.Bool.{true, false}
-use borrow.Author.Tests.{not-true, not-false}
+use mathlib.Core.Path.{◌≡◌}
 use lib.ListN.{length}
 use Rattle.closed.specs.Keeping.{Inside}
-use Rattle.closed.proofs.InsideLaws.{BandsTo, bands_start, bands_next, bands_end}
-use Rattle.closed.proofs.RowLaws.{ready_cells}
-use native.Mathlib.Omega.{arith}
+use Rattle.closed.proofs.InsideLaws.{BandsTo}
 use Rattle.closed.proofs.passes.all_inside.Given as goal
 
 abbrev pub invariant-loop-low : goal.invariant-loop-low

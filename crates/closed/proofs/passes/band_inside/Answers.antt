@@ -1,13 +1,8 @@
-use Prim.Native.Nat.{◌-◌, ◌≤◌}
 use mathlib.Core.Path.{◌≡◌, refl, ◌∙◌}
 use mathlib.Core.Bool.{true, false}
-use borrow.Author.Tests.{not-true, not-false}
-use lib.ListN.{length}
-use Rattle.closed.specs.Keeping.{Inside}
-use Rattle.closed.proofs.InsideLaws.{ClassesTo, classes_start, classes_next, classes_end}
+use Rattle.closed.proofs.InsideLaws.{classes_start, classes_next, classes_end}
 use Rattle.closed.proofs.RowLaws.{ready_cells}
 use native.Mathlib.Omega.{arith}
-use borrow.Author.Rules.{rules}
 use Rattle.closed.proofs.passes.band_inside.Goals as goal
 
 pub count_between-requires : goal.count_between-requires

@@ -1,14 +1,9 @@
 -- The invariant: the pairs of the classes passed lead to states of the file. Assumes nothing.
 use Prim.Native.Nat.{◌-◌, ◌≤◌}
-use mathlib.Core.Path.{◌≡◌, refl, ◌∙◌}
-use mathlib.Core.Bool.{true, false}
-use borrow.Author.Tests.{not-true, not-false}
+use mathlib.Core.Path.{◌≡◌}
 use lib.ListN.{length}
 use Rattle.closed.specs.Keeping.{Inside}
-use Rattle.closed.proofs.InsideLaws.{ClassesTo, classes_start, classes_next, classes_end}
-use Rattle.closed.proofs.RowLaws.{ready_cells}
-use native.Mathlib.Omega.{arith}
-use borrow.Author.Rules.{rules}
+use Rattle.closed.proofs.InsideLaws.{ClassesTo}
 use Rattle.closed.proofs.passes.band_inside.Given as goal
 
 abbrev pub invariant-loop-class : goal.invariant-loop-class

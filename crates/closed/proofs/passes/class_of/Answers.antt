@@ -3,7 +3,6 @@ use mathlib.Core.Path.{ap}
 use Prim.Native.Nat.{◌+◌, ◌/◌, ◌%◌}
 use Rattle.closed.specs.Keeping.{class_of}
 use Rattle.closed.proofs.PassLaws.{class_one}
-use borrow.Author.Rules.{rules}
 use Rattle.closed.proofs.passes.class_of.Goals as goal
 
 pub returns-then-classes-eq1 : goal.returns-then-classes-eq1

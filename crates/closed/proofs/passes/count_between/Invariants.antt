@@ -1,7 +1,5 @@
 -- The invariant: at most i states are counted. Assumes nothing.
 use Prim.Native.Nat.{◌-◌, ◌≤◌}
-use native.Mathlib.Omega.{arith}
-use borrow.Author.Rules.{rules}
 use Rattle.closed.proofs.passes.count_between.Given as goal
 
 abbrev pub invariant-loop-i : goal.invariant-loop-i

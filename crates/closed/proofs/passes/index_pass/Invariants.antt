@@ -1,9 +1,7 @@
 -- The invariant: the number of cells is kept. Assumes nothing.
 use Prim.Native.Nat.{◌-◌, ◌≤◌}
-use mathlib.Core.Path.{◌≡◌, refl, ◌∙◌}
+use mathlib.Core.Path.{◌≡◌}
 use lib.ListN.{length}
-use native.Mathlib.Omega.{arith}
-use borrow.Author.Rules.{rules}
 use Rattle.closed.proofs.passes.index_pass.Given as goal
 
 abbrev pub invariant-loop-i : goal.invariant-loop-i

@@ -3,7 +3,6 @@ use Prim.Native.Nat.{min}
 use mathlib.Core.Path.{sym, ap, ◌∙◌}
 use Rattle.lists.specs.Lists.{pick}
 use Rattle.closed.proofs.PassLaws.{landing_now, landing_far}
-use borrow.Author.Rules.{rules}
 use Rattle.closed.proofs.passes.landing.Goals as goal
 
 pub returns-then-released : goal.returns-then-released

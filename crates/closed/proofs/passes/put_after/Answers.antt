@@ -1,6 +1,5 @@
 -- A key that is due is put behind the others. Assumes nothing.
 use mathlib.Core.Path.{ap, ◌∙◌}
-use borrow.Author.Tests.{not-true}
 use Rattle.tasks.specs.Words.{state_of}
 use Rattle.tasks.specs.Ticker.{ticked_by}
 use Rattle.lists.proofs.Bools.{clash}

@@ -1,9 +1,7 @@
-use Prim.Native.Nat.{ℕ, ◌+◌, ◌-◌, ◌*◌, ◌<◌, ◌≤◌}
+use Prim.Native.Nat.{ℕ, ◌<◌}
 use mathlib.Core.Path.{◌≡◌, refl, ap, ◌∙◌}
 use mathlib.Core.Bool.{Bool, true, false, ◌&&◌}
-use borrow.Author.Tests.{not-true}
 use lib.Dec.{leb, ltb}
-use lib.ListN.{length, get_or}
 use Rattle.tasks.specs.State.{improper}
 use Rattle.tasks.specs.Tick.{after}
 use Rattle.tasks.specs.Masks.{free_mask}
@@ -13,7 +11,7 @@ use Rattle.tasks.proofs.Free.{ticks, frees}
 use Rattle.states.proofs.MaskLaws.{walked_falls}
 use Rattle.states.specs.Bytes.{state_in}
 use Rattle.closed.specs.Keeping.{landing}
-use Rattle.closed.proofs.RowLaws.{RowTo, Row, row_start, row_next, row_skipped, row_end}
+use Rattle.closed.proofs.RowLaws.{Row, row_start, row_next, row_skipped, row_end}
 use native.Mathlib.Omega.{arith}
 use borrow.Author.Rules.{rules}
 use Rattle.closed.proofs.passes.row_pending.Goals as goal
@@ -36,12 +34,11 @@ gap_at-gap-requires c =
     (omega (arith, g.0.whole, g.4), g.3)
 
 pub returns-then-not-kept-released : goal.returns-then-not-kept-released
-returns-then-not-kept-released c =
-    (
-      omega arith,
-      row_skipped c.args.t c.args.file.now c.args.split c.args.pass c.args.i
-          (due_is c.args.pass.low c.args.pass.high c.args.split.top false c.gap_at-gap.ensures c.between-kept.ensures c.landing.ensures) (due_is c.args.pass.low c.args.pass.high c.args.split.top true c.gap_at-gap.ensures c.between-released.ensures c.landing-2.ensures) (c.if-not-kept-released.true) c.args.n c.args.pending.now c.args.count,
-    )
+returns-then-not-kept-released c = (
+  omega arith,
+  row_skipped c.args.t c.args.file.now c.args.split c.args.pass c.args.i
+      (due_is c.args.pass.low c.args.pass.high c.args.split.top false c.gap_at-gap.ensures c.between-kept.ensures c.landing.ensures) (due_is c.args.pass.low c.args.pass.high c.args.split.top true c.gap_at-gap.ensures c.between-released.ensures c.landing-2.ensures) (c.if-not-kept-released.true) c.args.n c.args.pending.now c.args.count,
+)
 
 pub loop-m-init : goal.loop-m-init
 loop-m-init c =
@@ -72,11 +69,13 @@ shape_of-pending c =
     c.loop-m.invariant.1
 
 pub returns : goal.returns
-returns c =
-    (omega (arith, c.loop-m.invariant.0, c.loop-m.invariant.2.walked.most), row_end (let it : Row c.args.t c.args.ticker c.args.file.now c.args.split c.args.pass c.args.i c.between-kept.result c.between-released.result c.prepare-state.result c.free-free.result = let here : state_of c.words_in-v.result ≡ state_in c.args.file.now c.args.i = c.words_in-v.ensures in
-    record {
-      keeps = due_is c.args.pass.low c.args.pass.high c.args.split.top false c.gap_at-gap.ensures c.between-kept.ensures c.landing.ensures;
-      releases = due_is c.args.pass.low c.args.pass.high c.args.split.top true c.gap_at-gap.ensures c.between-released.ensures c.landing-2.ensures;
-      ticks = λ q. ticks c.args.t _ c.requires.1 c.prepare-state.ensures c.requires.0.valid (ap (improper c.args.t) here ∙ c.requires.5) (let it : WordList c.words_in-v.result = record { word = λ i h. search rules } in it) q ∙ ap (λ u. after c.args.t u q) here;
-      frees = frees c.args.t _ c.requires.1 c.free-free.ensures ∙ ap (free_mask c.args.t) here;
-    } in it) c.requires.0.is c.requires.4 c.loop-m.invariant.2 c.loop-m-test.false)
+returns c = (
+  omega (arith, c.loop-m.invariant.0, c.loop-m.invariant.2.walked.most),
+  row_end (let it : Row c.args.t c.args.ticker c.args.file.now c.args.split c.args.pass c.args.i c.between-kept.result c.between-released.result c.prepare-state.result c.free-free.result = let here : state_of c.words_in-v.result ≡ state_in c.args.file.now c.args.i = c.words_in-v.ensures in
+      record {
+        keeps = due_is c.args.pass.low c.args.pass.high c.args.split.top false c.gap_at-gap.ensures c.between-kept.ensures c.landing.ensures;
+        releases = due_is c.args.pass.low c.args.pass.high c.args.split.top true c.gap_at-gap.ensures c.between-released.ensures c.landing-2.ensures;
+        ticks = λ q. ticks c.args.t _ c.requires.1 c.prepare-state.ensures c.requires.0.valid (ap (improper c.args.t) here ∙ c.requires.5) (let it : WordList c.words_in-v.result = record { word = λ i h. search rules } in it) q ∙ ap (λ u. after c.args.t u q) here;
+        frees = frees c.args.t _ c.requires.1 c.free-free.ensures ∙ ap (free_mask c.args.t) here;
+      } in it) c.requires.0.is c.requires.4 c.loop-m.invariant.2 c.loop-m-test.false,
+)

@@ -1,12 +1,10 @@
-use Prim.Native.Nat.{◌+◌, ◌-◌, ◌<◌, ◌≤◌}
+use Prim.Native.Nat.{◌+◌}
 use mathlib.Core.Path.{◌≡◌, refl, ◌∙◌}
 use mathlib.Core.Bool.{true, false}
-use borrow.Author.Tests.{not-true, not-false, leb-false, eqb-false}
+use borrow.Author.Tests.{leb-false, eqb-false}
 use lib.Dec.{leb, eqb}
-use lib.ListN.{length}
 use Rattle.lists.proofs.Bools.{nor_left, nor_right}
-use Rattle.closed.proofs.InsideLaws.{RowsTo}
-use Rattle.closed.proofs.PendingLaws.{Waiting, waiting_start, waiting_next, waiting_held, waiting_end, waiting_open}
+use Rattle.closed.proofs.PendingLaws.{waiting_start, waiting_next, waiting_held, waiting_end, waiting_open}
 use native.Mathlib.Omega.{arith}
 use borrow.Author.Rules.{rules}
 use Rattle.closed.proofs.passes.rows_inside.Goals as goal

@@ -1,7 +1,5 @@
 -- The invariant: a task of the eight. Assumes nothing.
 use Prim.Native.Nat.{◌-◌, ◌≤◌, ◌<◌}
-use native.Mathlib.Omega.{arith}
-use borrow.Author.Rules.{rules}
 use Rattle.closed.proofs.passes.split_of.Given as goal
 
 abbrev pub invariant-loop-i : goal.invariant-loop-i

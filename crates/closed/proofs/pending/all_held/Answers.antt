@@ -1,11 +1,7 @@
-use Prim.Native.Nat.{◌-◌, ◌≤◌}
 use mathlib.Core.Path.{◌≡◌}
 use mathlib.Core.Bool.{true, false}
-use borrow.Author.Tests.{not-true, not-false}
-use Rattle.closed.specs.Keeping.{AllHeld}
 use Rattle.closed.proofs.PendingLaws.{held_none, held_next}
 use native.Mathlib.Omega.{arith}
-use borrow.Author.Rules.{rules}
 use Rattle.closed.proofs.pending.all_held.Goals as goal
 
 pub loop-k-init : goal.loop-k-init

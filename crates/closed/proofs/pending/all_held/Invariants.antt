@@ -1,12 +1,6 @@
 -- The invariant: the keys passed are held. Assumes nothing.
 use Prim.Native.Nat.{◌-◌, ◌≤◌}
-use mathlib.Core.Path.{◌≡◌}
-use mathlib.Core.Bool.{true, false}
-use borrow.Author.Tests.{not-true, not-false}
 use Rattle.closed.specs.Keeping.{AllHeld}
-use Rattle.closed.proofs.PendingLaws.{held_none, held_next}
-use native.Mathlib.Omega.{arith}
-use borrow.Author.Rules.{rules}
 use Rattle.closed.proofs.pending.all_held.Given as goal
 
 abbrev pub invariant-loop-k : goal.invariant-loop-k

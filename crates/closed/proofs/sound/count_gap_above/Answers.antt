@@ -1,14 +1,10 @@
 use native.Mathlib.Omega.{arith}
-use Prim.Native.Nat.{◌≤◌, ◌-◌}
-use mathlib.Core.Path.{◌≡◌}
 use lib.Dec.{ltb}
 use lib.ListN.{get_or}
-use Rattle.lists.specs.Lists.{count}
 use Rattle.tasks.specs.Words.{state_of}
 use Rattle.lists.proofs.Turns.{count_none, count_turn, count_end, count_room}
 use Rattle.closed.specs.Keeping.{gap_above}
 use Rattle.closed.proofs.SoundLaws.{gap_above_word}
-use borrow.Author.Rules.{rules}
 use Rattle.closed.proofs.sound.count_gap_above.Goals as goal
 
 pub loop-i-init : goal.loop-i-init

@@ -1,7 +1,6 @@
 -- The three counts. Assumes nothing.
 use Rattle.tasks.specs.Words.{state_of}
 use Rattle.closed.proofs.SoundLaws.{exceeds_work, exceeds_gap, exceeds_kept}
-use borrow.Author.Rules.{rules}
 use Rattle.closed.proofs.sound.exceeds.Goals as goal
 
 pub returns-then-count_work_above-gt0 : goal.returns-then-count_work_above-gt0

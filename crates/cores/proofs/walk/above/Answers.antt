@@ -5,7 +5,6 @@ use borrow.Author.Tests.{ltb-false, le-ltb}
 use Rattle.lists.proofs.Bools.{by_bool}
 use Rattle.cores.specs.Walk.{capped}
 use native.Mathlib.Omega.{arith}
-use borrow.Author.Rules.{rules}
 use Rattle.cores.proofs.walk.above.Goals as goal
 
 some : (x : ℕ) → x < 65535 → x + 1 ≡ capped x + 1

@@ -1,13 +1,10 @@
-use Prim.Native.Nat.{◌-◌, ◌<◌}
-use mathlib.Core.Path.{◌≡◌}
+use Prim.Native.Nat.{◌<◌}
 use lib.Dec.{ltb}
 use borrow.Author.Tests.{ltb-true, ltb-false}
-use Rattle.lists.specs.Lists.{eight}
 use Rattle.lists.proofs.Bools.{by_bool, and_left, and_right, and_no}
-use Rattle.cores.specs.Walk.{rank, ready_count, Walked}
+use Rattle.cores.specs.Walk.{ready_count}
 use Rattle.cores.proofs.WalkLaws.{walk_full, walk_all}
 use native.Mathlib.Omega.{arith}
-use borrow.Author.Rules.{rules}
 use Rattle.cores.proofs.walk.assign.Goals as goal
 
 pub loop-walk-init : goal.loop-walk-init

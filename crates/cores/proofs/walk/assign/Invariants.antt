@@ -1,14 +1,8 @@
 -- The invariant: the walk has chosen the first tasks in order, as many as processors are given out, and not more than m. Assumes nothing.
-use Prim.Native.Nat.{◌-◌, ◌<◌}
+use Prim.Native.Nat.{◌-◌}
 use mathlib.Core.Path.{◌≡◌}
-use lib.Dec.{ltb}
-use borrow.Author.Tests.{ltb-true, ltb-false}
 use Rattle.lists.specs.Lists.{eight}
-use Rattle.lists.proofs.Bools.{by_bool, and_left, and_right, and_no}
 use Rattle.cores.specs.Walk.{rank, ready_count, Walked}
-use Rattle.cores.proofs.WalkLaws.{walk_full, walk_all}
-use native.Mathlib.Omega.{arith}
-use borrow.Author.Rules.{rules}
 use Rattle.cores.proofs.walk.assign.Given as goal
 
 abbrev pub invariant-loop-walk : goal.invariant-loop-walk

@@ -1,5 +1,4 @@
 use Rattle.cores.proofs.WalkLaws.{walk_start}
-use borrow.Author.Rules.{rules}
 use Rattle.cores.proofs.walk.assign_kept.Goals as goal
 
 pub returns : goal.returns

@@ -1,6 +1,5 @@
 use mathlib.Core.Path.{refl}
 use Rattle.cores.proofs.WalkLaws.{walk_step}
-use borrow.Author.Rules.{rules}
 use Rattle.cores.proofs.walk.assign_next.Goals as goal
 
 pub returns : goal.returns

@@ -1,7 +1,4 @@
-use Prim.Native.Nat.{◌-◌, ◌<◌}
-use mathlib.Core.Path.{◌≡◌}
-use Rattle.lists.specs.Lists.{eight}
-use Rattle.cores.specs.Walk.{rank, ready_count, Walked}
+use Rattle.cores.specs.Walk.{ready_count}
 use Rattle.cores.proofs.RankLaws.{kept_ready}
 use Rattle.cores.proofs.WalkLaws.{walk_full, walk_all}
 use native.Mathlib.Omega.{arith}
@@ -25,12 +22,11 @@ returns-then-count-waiting c =
 
 pub loop-walk-init : goal.loop-walk-init
 unfolding ready_count
-loop-walk-init c =
-    (
-      c.assign_kept-start.ensures.0,
-      omega (arith, kept_ready c.args.places, c.assign_kept-start.ensures.1, c.count_below.ensures.0, c.if-count-waiting.false),
-      c.ranks-ranks.ensures,
-    )
+loop-walk-init c = (
+  c.assign_kept-start.ensures.0,
+  omega (arith, kept_ready c.args.places, c.assign_kept-start.ensures.1, c.count_below.ensures.0, c.if-count-waiting.false),
+  c.ranks-ranks.ensures,
+)
 
 pub assign_next-next-requires : goal.assign_next-next-requires
 assign_next-next-requires c =

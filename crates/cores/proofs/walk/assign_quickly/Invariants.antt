@@ -3,10 +3,6 @@ use Prim.Native.Nat.{◌-◌, ◌<◌}
 use mathlib.Core.Path.{◌≡◌}
 use Rattle.lists.specs.Lists.{eight}
 use Rattle.cores.specs.Walk.{rank, ready_count, Walked}
-use Rattle.cores.proofs.RankLaws.{kept_ready}
-use Rattle.cores.proofs.WalkLaws.{walk_full, walk_all}
-use native.Mathlib.Omega.{arith}
-use borrow.Author.Rules.{rules}
 use Rattle.cores.proofs.walk.assign_quickly.Given as goal
 
 abbrev pub invariant-loop-walk : goal.invariant-loop-walk

@@ -1,13 +1,7 @@
 use Prim.Native.Nat.{◌≤◌, ◌-◌}
-use mathlib.Core.Path.{refl}
-use lib.Dec.{ltb}
-use lib.ListN.{get_or}
 use Rattle.lists.specs.Lists.{pick}
-use Rattle.lists.proofs.Fill.{Filled, filled_start, filled_store, filled_end}
-use Rattle.lists.proofs.Turns.{bool_byte_lem}
+use Rattle.lists.proofs.Fill.{Filled}
 use Rattle.cores.specs.Walk.{under}
-use native.Mathlib.Omega.{arith}
-use borrow.Author.Rules.{rules}
 use Rattle.cores.proofs.walk.below.Given as goal
 
 abbrev pub invariant-loop-i : goal.invariant-loop-i

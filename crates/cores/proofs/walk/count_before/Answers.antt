@@ -1,11 +1,8 @@
-use Prim.Native.Nat.{◌≤◌, ◌-◌}
-use mathlib.Core.Path.{◌≡◌, refl, ap, ◌∙◌}
+use mathlib.Core.Path.{refl, ap, ◌∙◌}
 use lib.ListN.{get_or}
-use Rattle.lists.specs.Lists.{count}
 use Rattle.cores.specs.Walk.{sooner, leads, rank}
 use Rattle.lists.proofs.Turns.{count_none, count_turn, count_end, count_room, count_le}
 use native.Mathlib.Omega.{arith}
-use borrow.Author.Rules.{rules}
 use Rattle.cores.proofs.walk.count_before.Goals as goal
 
 pub loop-k-init : goal.loop-k-init

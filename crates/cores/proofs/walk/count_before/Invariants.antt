@@ -1,12 +1,9 @@
 -- The invariant: n is the count among the first k. Assumes nothing.
 use Prim.Native.Nat.{◌≤◌, ◌-◌}
-use mathlib.Core.Path.{◌≡◌, refl, ap, ◌∙◌}
+use mathlib.Core.Path.{◌≡◌}
 use lib.ListN.{get_or}
 use Rattle.lists.specs.Lists.{count}
-use Rattle.cores.specs.Walk.{sooner, leads, rank}
-use Rattle.lists.proofs.Turns.{count_none, count_turn, count_end, count_room, count_le}
-use native.Mathlib.Omega.{arith}
-use borrow.Author.Rules.{rules}
+use Rattle.cores.specs.Walk.{leads}
 use Rattle.cores.proofs.walk.count_before.Given as goal
 
 abbrev pub invariant-loop-k : goal.invariant-loop-k

@@ -1,12 +1,9 @@
-use Prim.Native.Nat.{◌≤◌, ◌-◌}
-use mathlib.Core.Path.{◌≡◌, refl}
+use mathlib.Core.Path.{refl}
 use lib.Dec.{ltb}
 use lib.ListN.{get_or}
-use Rattle.lists.specs.Lists.{count}
 use Rattle.cores.specs.Walk.{under}
 use Rattle.lists.proofs.Turns.{count_none, count_turn, count_end, count_room, count_le}
 use native.Mathlib.Omega.{arith}
-use borrow.Author.Rules.{rules}
 use Rattle.cores.proofs.walk.count_below.Goals as goal
 
 pub loop-i-init : goal.loop-i-init

@@ -1,13 +1,8 @@
 -- The invariant: n is the count among the first i. Assumes nothing.
 use Prim.Native.Nat.{◌≤◌, ◌-◌}
-use mathlib.Core.Path.{◌≡◌, refl}
-use lib.Dec.{ltb}
-use lib.ListN.{get_or}
+use mathlib.Core.Path.{◌≡◌}
 use Rattle.lists.specs.Lists.{count}
 use Rattle.cores.specs.Walk.{under}
-use Rattle.lists.proofs.Turns.{count_none, count_turn, count_end, count_room, count_le}
-use native.Mathlib.Omega.{arith}
-use borrow.Author.Rules.{rules}
 use Rattle.cores.proofs.walk.count_below.Given as goal
 
 abbrev pub invariant-loop-i : goal.invariant-loop-i

@@ -1,10 +1,7 @@
-use Prim.Native.Nat.{◌≤◌, ◌-◌, ◌+◌}
 use mathlib.Core.Path.{refl}
-use Rattle.cores.specs.Walk.{rank}
-use Rattle.lists.proofs.Fill.{Filled, filled_start, filled_store, filled_end}
+use Rattle.lists.proofs.Fill.{filled_start, filled_store, filled_end}
 use Rattle.cores.proofs.RankLaws.{rank_turn, rank_room}
 use native.Mathlib.Omega.{arith}
-use borrow.Author.Rules.{rules}
 use Rattle.cores.proofs.walk.count_place.Goals as goal
 
 pub loop-j-init : goal.loop-j-init

@@ -1,10 +1,6 @@
 use Prim.Native.Nat.{◌≤◌, ◌-◌, ◌+◌}
-use mathlib.Core.Path.{refl}
 use Rattle.cores.specs.Walk.{rank}
-use Rattle.lists.proofs.Fill.{Filled, filled_start, filled_store, filled_end}
-use Rattle.cores.proofs.RankLaws.{rank_turn, rank_room}
-use native.Mathlib.Omega.{arith}
-use borrow.Author.Rules.{rules}
+use Rattle.lists.proofs.Fill.{Filled}
 use Rattle.cores.proofs.walk.count_place.Given as goal
 
 abbrev pub invariant-loop-j : goal.invariant-loop-j

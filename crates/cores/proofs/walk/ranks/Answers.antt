@@ -1,11 +1,8 @@
-use Prim.Native.Nat.{◌≤◌, ◌-◌}
-use mathlib.Core.Path.{◌≡◌}
 use Rattle.lists.specs.Lists.{eight}
 use Rattle.cores.specs.Walk.{rank}
 use Rattle.lists.proofs.Turns.{at_end}
 use Rattle.cores.proofs.RankLaws.{rank_start}
 use native.Mathlib.Omega.{arith}
-use borrow.Author.Rules.{rules}
 use Rattle.cores.proofs.walk.ranks.Goals as goal
 
 pub loop-i-init : goal.loop-i-init

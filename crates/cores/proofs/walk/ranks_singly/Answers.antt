@@ -1,9 +1,6 @@
-use Prim.Native.Nat.{◌≤◌, ◌-◌}
 use mathlib.Core.Path.{refl}
-use Rattle.lists.proofs.Fill.{Filled, filled_start, filled_store, filled_end}
-use Rattle.cores.specs.Walk.{rank}
+use Rattle.lists.proofs.Fill.{filled_start, filled_store, filled_end}
 use native.Mathlib.Omega.{arith}
-use borrow.Author.Rules.{rules}
 use Rattle.cores.proofs.walk.ranks_singly.Goals as goal
 
 pub loop-i-init : goal.loop-i-init

@@ -1,9 +1,6 @@
 use Prim.Native.Nat.{◌≤◌, ◌-◌}
-use mathlib.Core.Path.{refl}
-use Rattle.lists.proofs.Fill.{Filled, filled_start, filled_store, filled_end}
+use Rattle.lists.proofs.Fill.{Filled}
 use Rattle.cores.specs.Walk.{rank}
-use native.Mathlib.Omega.{arith}
-use borrow.Author.Rules.{rules}
 use Rattle.cores.proofs.walk.ranks_singly.Given as goal
 
 abbrev pub invariant-loop-i : goal.invariant-loop-i

@@ -4,7 +4,6 @@ use lib.Dec.{ltb}
 use mir.Val.{bool_byte}
 use Rattle.cores.proofs.RankLaws.{sooner_once}
 use native.Mathlib.Omega.{arith}
-use borrow.Author.Rules.{rules}
 use Rattle.cores.proofs.walk.sooner.Goals as goal
 
 bit_small : (b : Bool) → bool_byte b ≤ 1

@@ -1,8 +1,6 @@
-use Prim.Native.Nat.{◌-◌, ◌≤◌}
-use lib.ListN.{length, length-set}
+use lib.ListN.{length-set}
 use native.Mathlib.Omega.{arith}
-use Rattle.cut.proofs.MaskLaws.{Cutting, cutting_start, cutting_step, cutting_end}
-use borrow.Author.Rules.{rules}
+use Rattle.cut.proofs.MaskLaws.{cutting_start, cutting_step, cutting_end}
 use Rattle.cut.proofs.masks.cut_list.Goals as goal
 
 pub loop-i-init : goal.loop-i-init

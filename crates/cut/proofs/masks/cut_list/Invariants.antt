@@ -1,9 +1,7 @@
 -- The invariant: the first i masks are cut. Assumes nothing.
 use Prim.Native.Nat.{◌-◌, ◌≤◌}
-use lib.ListN.{length, length-set}
-use native.Mathlib.Omega.{arith}
-use Rattle.cut.proofs.MaskLaws.{Cutting, cutting_start, cutting_step, cutting_end}
-use borrow.Author.Rules.{rules}
+use lib.ListN.{length}
+use Rattle.cut.proofs.MaskLaws.{Cutting}
 use Rattle.cut.proofs.masks.cut_list.Given as goal
 
 abbrev pub invariant-loop-i : goal.invariant-loop-i

@@ -1,9 +1,5 @@
-use Prim.Native.Nat.{◌-◌, ◌≤◌}
-use lib.Dec.{ltb}
-use lib.ListN.{get_or}
 use native.Mathlib.Omega.{arith}
-use Rattle.lists.specs.Lists.{pick}
-use Rattle.lists.proofs.Fill.{Filled, filled_start, filled_store, filled_end}
+use Rattle.lists.proofs.Fill.{filled_start, filled_store, filled_end}
 use borrow.Author.Rules.{rules}
 use Rattle.cut.proofs.numbers.first_of.Goals as goal
 

@@ -5,7 +5,6 @@ use Rattle.tasks.specs.Table.{table_fault}
 use Rattle.tasks.specs.Sheet.{accepted_as}
 use Rattle.tasks.proofs.Answers.{sheet_told}
 use Rattle.cut.proofs.TableLaws.{answer_fault, answer_outside, answer_cut}
-use borrow.Author.Rules.{rules}
 use Rattle.cut.proofs.tables.cut_table.Goals as goal
 
 pub returns-then-fault-gt0 : goal.returns-then-fault-gt0

@@ -1,6 +1,5 @@
 -- Number by number. Assumes nothing.
 use Rattle.cut.specs.Cut.{cut_table}
-use borrow.Author.Rules.{rules}
 use Rattle.cut.proofs.tables.first_tasks.Goals as goal
 
 pub returns : goal.returns

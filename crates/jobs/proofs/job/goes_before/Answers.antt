@@ -1,4 +1,4 @@
-use Rattle.std.proofs.Common.{w16, rules}
+use Rattle.std.proofs.Common.{w16}
 use mir.ValLaws.{to_z-of_z}
 use Rattle.jobs.proofs.job.goes_before.Goals as goal
 

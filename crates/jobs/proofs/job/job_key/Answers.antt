@@ -1,4 +1,4 @@
-use Rattle.std.proofs.Common.{rules, le-ltb, lt-ltb}
+use Rattle.std.proofs.Common.{le-ltb, lt-ltb}
 use Rattle.jobs.specs.Job.{job_key}
 use Rattle.jobs.proofs.Signed.{back}
 use Rattle.jobs.proofs.job.job_key.Goals as goal

@@ -1,4 +1,3 @@
-use Rattle.std.proofs.Common.{rules}
 use Rattle.jobs.proofs.Signed.{back}
 use Rattle.jobs.proofs.job.late_job.Goals as goal
 

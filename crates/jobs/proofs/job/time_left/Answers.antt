@@ -1,4 +1,4 @@
-use Rattle.std.proofs.Common.{w16, rules}
+use Rattle.std.proofs.Common.{w16}
 use mir.ValLaws.{to_z-of_z}
 use Rattle.jobs.proofs.Signed.{back, byte, time_left_fits}
 use Rattle.jobs.proofs.job.time_left.Goals as goal

@@ -1,4 +1,4 @@
-use Rattle.std.proofs.Common.{arith, rules}
+use Rattle.std.proofs.Common.{arith}
 use Rattle.jobs.proofs.place.place_of.Goals as goal
 
 pub returns-then-busy : goal.returns-then-busy

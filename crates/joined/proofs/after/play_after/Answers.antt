@@ -6,7 +6,6 @@ use Rattle.tasks.proofs.Answers.{replay_is, replay_told}
 use Rattle.joined.specs.Raised.{raised_answer}
 use Rattle.joined.proofs.Theorems.{after_answer}
 use native.Mathlib.Omega.{arith}
-use borrow.Author.Rules.{rules}
 use Rattle.joined.proofs.after.play_after.Goals as goal
 
 pub raised_tick-requires : goal.raised_tick-requires

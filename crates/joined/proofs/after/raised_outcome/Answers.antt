@@ -3,7 +3,6 @@ use mathlib.Core.Path.{ap}
 use Rattle.tasks.specs.Replay.{outcome_tick}
 use Rattle.tasks.specs.declared.play.Outcome.TheVariants.{Missed}
 use Rattle.joined.specs.Raised.{raised_outcome}
-use borrow.Author.Rules.{rules}
 use Rattle.joined.proofs.after.raised_outcome.Goals as goal
 
 pub raised_tick-requires : goal.raised_tick-requires

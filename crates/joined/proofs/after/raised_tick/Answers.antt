@@ -1,7 +1,6 @@
 -- By cases; the sum is below 2^64. Assumes nothing.
 use Rattle.joined.specs.Raised.{raised_tick}
 use borrow.Author.Tests.{eq-eqb, ne_eqb}
-use borrow.Author.Rules.{rules}
 use Rattle.joined.proofs.after.raised_tick.Goals as goal
 
 pub returns-then-tick-eq0 : goal.returns-then-tick-eq0

@@ -1,7 +1,4 @@
-use Prim.Native.Nat.{◌+◌, ◌≤◌}
-use mathlib.Core.Path.{◌≡◌, refl}
-use lib.ListN.{length}
-use Rattle.lines.specs.Lines.{decimal}
+use mathlib.Core.Path.{refl}
 use Rattle.lines.proofs.Digits.{decimal_word, decimal_some, decimal_longer, decimal_single}
 use native.Mathlib.Omega.{arith}
 use Rattle.lines.proofs.decimal.decimal_len.Goals as goal

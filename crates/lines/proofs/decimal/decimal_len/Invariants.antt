@@ -1,10 +1,8 @@
 -- The invariant: the digits that are left and those counted are all, and one more. Assumes nothing.
 use Prim.Native.Nat.{◌+◌, ◌≤◌}
-use mathlib.Core.Path.{◌≡◌, refl}
+use mathlib.Core.Path.{◌≡◌}
 use lib.ListN.{length}
 use Rattle.lines.specs.Lines.{decimal}
-use Rattle.lines.proofs.Digits.{decimal_word, decimal_some, decimal_longer, decimal_single}
-use native.Mathlib.Omega.{arith}
 use Rattle.lines.proofs.decimal.decimal_len.Given as goal
 
 abbrev pub invariant-loop-rest : goal.invariant-loop-rest

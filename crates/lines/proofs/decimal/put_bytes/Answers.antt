@@ -1,12 +1,11 @@
-use Prim.Native.Nat.{◌+◌, ◌-◌, ◌≤◌}
+use Prim.Native.Nat.{◌+◌}
 use mathlib.Core.Path.{◌≡◌, refl}
 use mathlib.Core.List.{[], ◌∷◌}
 use native.Mathlib.Numerals.{add-one}
 use lib.ListN.{length, get_or, drop}
 use lib.Seq.{drop-cons, drop-length}
-use Rattle.tasks.proofs.Stores.{Storing, storing_start, storing_step, storing_end}
+use Rattle.tasks.proofs.Stores.{storing_start, storing_step, storing_end}
 use native.Mathlib.Omega.{arith}
-use borrow.Author.Rules.{rules}
 use Rattle.lines.proofs.decimal.put_bytes.Goals as goal
 
 pub loop-i-init : goal.loop-i-init

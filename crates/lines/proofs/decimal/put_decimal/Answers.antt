@@ -1,12 +1,11 @@
-use Prim.Native.Nat.{◌+◌, ◌/◌, ◌%◌, ◌<◌}
+use Prim.Native.Nat.{◌+◌, ◌/◌, ◌%◌}
 use mathlib.Core.Path.{◌≡◌, refl, sym, ap, ◌∙◌}
-use lib.ListN.{length, length-set}
+use lib.ListN.{length-set}
 use lib.Seq.{sets}
 use Rattle.lines.specs.Lines.{decimal}
 use Rattle.lines.proofs.Digits.{decimal_some, decimal_longer, decimal_single, decimal_more, decimal_one}
 use Rattle.lines.proofs.Places.{sets_last}
 use native.Mathlib.Omega.{arith}
-use borrow.Author.Rules.{rules}
 use Rattle.lines.proofs.decimal.put_decimal.Goals as goal
 
 pub overflow_add-end : goal.overflow_add-end

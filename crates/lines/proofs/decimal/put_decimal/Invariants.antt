@@ -1,13 +1,9 @@
 -- The invariant: the digits that are left, stored before those that are, are the whole. Assumes nothing.
-use Prim.Native.Nat.{◌+◌, ◌/◌, ◌%◌, ◌<◌}
-use mathlib.Core.Path.{◌≡◌, refl, sym, ap, ◌∙◌}
-use lib.ListN.{length, length-set}
+use Prim.Native.Nat.{◌+◌, ◌<◌}
+use mathlib.Core.Path.{◌≡◌}
+use lib.ListN.{length}
 use lib.Seq.{sets}
 use Rattle.lines.specs.Lines.{decimal}
-use Rattle.lines.proofs.Digits.{decimal_some, decimal_longer, decimal_single, decimal_more, decimal_one}
-use Rattle.lines.proofs.Places.{sets_last}
-use native.Mathlib.Omega.{arith}
-use borrow.Author.Rules.{rules}
 use Rattle.lines.proofs.decimal.put_decimal.Given as goal
 
 abbrev pub invariant-loop-rest : goal.invariant-loop-rest

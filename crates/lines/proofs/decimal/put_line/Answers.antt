@@ -3,7 +3,6 @@ use mathlib.Core.List.{[], ◌∷◌, ◌++◌}
 use Rattle.tasks.proofs.Stores.{storing_start, storing_step, storing_room, storing_left, storing_last}
 use Rattle.lines.specs.Lines.{decimal, line}
 use native.Mathlib.Omega.{arith}
-use borrow.Author.Rules.{rules}
 use Rattle.lines.proofs.decimal.put_line.Goals as goal
 
 pub put_word-next-requires : goal.put_word-next-requires

@@ -3,7 +3,6 @@ use mathlib.Core.List.{◌++◌}
 use Rattle.tasks.proofs.Stores.{storing_start, storing_step, storing_room, storing_left, storing_last}
 use Rattle.lines.specs.Lines.{decimal}
 use native.Mathlib.Omega.{arith}
-use borrow.Author.Rules.{rules}
 use Rattle.lines.proofs.decimal.put_word.Goals as goal
 
 pub put_bytes-next-requires : goal.put_bytes-next-requires

@@ -4,7 +4,6 @@ use lib.ListN.{length}
 use Rattle.lines.specs.Lines.{decimal}
 use Rattle.lines.proofs.LineLaws.{safe_length, unsafe_length, room_length, refused_length}
 use native.Mathlib.Omega.{arith}
-use borrow.Author.Rules.{rules}
 use Rattle.lines.proofs.text.first_len.Goals as goal
 
 pub returns-in-Safe : goal.returns-in-Safe

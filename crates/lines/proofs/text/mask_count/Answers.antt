@@ -3,7 +3,6 @@ use mathlib.Core.Path.{sym, ◌∙◌}
 use lib.Seq.{take_all}
 use Rattle.lines.specs.Lines.{masks_given}
 use native.Mathlib.Omega.{arith}
-use borrow.Author.Rules.{rules}
 use Rattle.lines.proofs.text.mask_count.Goals as goal
 
 pub returns-then-l-n : goal.returns-then-l-n

@@ -1,11 +1,10 @@
-use Prim.Native.Nat.{◌+◌, ◌-◌, ◌≤◌}
+use Prim.Native.Nat.{◌+◌}
 use mathlib.Core.Path.{◌≡◌, refl, sym, ap, ◌∙◌}
 use lib.ListN.{length, get_or, drop}
 use borrow.Author.Tests.{lt-leb, le-leb}
 use Rattle.lines.specs.Lines.{decimal, mask_lines}
 use Rattle.lines.proofs.LineLaws.{masks_end, masks_longer}
 use native.Mathlib.Omega.{arith}
-use borrow.Author.Rules.{rules}
 use Rattle.lines.proofs.text.masks_fit.Goals as goal
 
 pub loop-i-init : goal.loop-i-init

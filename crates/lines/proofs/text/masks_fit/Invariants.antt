@@ -1,12 +1,8 @@
 -- The invariant: what the lines lack of the room is what the lines to come lack of what is left of it. Assumes nothing.
 use Prim.Native.Nat.{◌+◌, ◌-◌, ◌≤◌}
-use mathlib.Core.Path.{◌≡◌, refl, sym, ap, ◌∙◌}
-use lib.ListN.{length, get_or, drop}
-use borrow.Author.Tests.{lt-leb, le-leb}
-use Rattle.lines.specs.Lines.{decimal, mask_lines}
-use Rattle.lines.proofs.LineLaws.{masks_end, masks_longer}
-use native.Mathlib.Omega.{arith}
-use borrow.Author.Rules.{rules}
+use mathlib.Core.Path.{◌≡◌}
+use lib.ListN.{length, drop}
+use Rattle.lines.specs.Lines.{mask_lines}
 use Rattle.lines.proofs.text.masks_fit.Given as goal
 
 abbrev pub invariant-loop-i : goal.invariant-loop-i

@@ -8,7 +8,6 @@ use Rattle.search.specs.declared.run.SearchAnswer.{SearchAnswer}
 use Rattle.search.specs.declared.run.SearchAnswer.TheVariants.{Unsafe}
 use Rattle.lines.specs.Lines.{decimal, line, unsafe_word, blank, first_line}
 use native.Mathlib.Omega.{arith}
-use borrow.Author.Rules.{rules}
 use Rattle.lines.proofs.text.put_first.Goals as goal
 
 -- under Unsafe: the word with L, and then a line of the count

@@ -13,7 +13,6 @@ use Rattle.search.specs.declared.run.SearchAnswer.{SearchAnswer}
 use Rattle.lines.specs.Lines.{first_line, mask_lines, masks_given, lines_of}
 use Rattle.lines.proofs.LineLaws.{lines_length, lines_short, lines_fit, lines_stored, lines_most}
 use native.Mathlib.Omega.{arith}
-use borrow.Author.Rules.{rules}
 use Rattle.lines.proofs.text.put_lines.Goals as goal
 
 -- the first line and the masks' lines fit

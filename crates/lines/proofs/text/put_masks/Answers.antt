@@ -1,11 +1,10 @@
-use Prim.Native.Nat.{◌+◌, ◌-◌, ◌≤◌}
+use Prim.Native.Nat.{◌+◌}
 use mathlib.Core.List.{[]}
-use lib.ListN.{length, get_or, drop}
-use Rattle.tasks.proofs.Stores.{Storing, storing_start, storing_step, storing_room, storing_end}
+use lib.ListN.{get_or, drop}
+use Rattle.tasks.proofs.Stores.{storing_start, storing_step, storing_room, storing_end}
 use Rattle.lines.specs.Lines.{line, mask_lines}
 use Rattle.lines.proofs.LineLaws.{masks_turn, masks_end}
 use native.Mathlib.Omega.{arith}
-use borrow.Author.Rules.{rules}
 use Rattle.lines.proofs.text.put_masks.Goals as goal
 
 pub loop-i-init : goal.loop-i-init

@@ -1,12 +1,8 @@
 -- The invariant: what is left to store, stored from the present place, is the whole. Assumes nothing.
-use Prim.Native.Nat.{◌+◌, ◌-◌, ◌≤◌}
-use mathlib.Core.List.{[]}
-use lib.ListN.{length, get_or, drop}
-use Rattle.tasks.proofs.Stores.{Storing, storing_start, storing_step, storing_room, storing_end}
-use Rattle.lines.specs.Lines.{line, mask_lines}
-use Rattle.lines.proofs.LineLaws.{masks_turn, masks_end}
-use native.Mathlib.Omega.{arith}
-use borrow.Author.Rules.{rules}
+use Prim.Native.Nat.{◌-◌, ◌≤◌}
+use lib.ListN.{length, drop}
+use Rattle.tasks.proofs.Stores.{Storing}
+use Rattle.lines.specs.Lines.{mask_lines}
 use Rattle.lines.proofs.text.put_masks.Given as goal
 
 abbrev pub invariant-loop-i : goal.invariant-loop-i

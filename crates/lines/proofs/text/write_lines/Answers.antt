@@ -1,6 +1,5 @@
 use mathlib.Core.Path.{ap}
 use Rattle.tasks.specs.Answers.{writing_answer}
-use borrow.Author.Rules.{rules}
 use Rattle.lines.proofs.text.write_lines.Goals as goal
 
 pub returns : goal.returns

@@ -1,7 +1,6 @@
 -- The numbers fit a task, so each of them fits a byte. Assumes nothing.
 use native.Mathlib.Omega.{arith}
 use Rattle.practice.proofs.DrawLaws.{draws_fit}
-use borrow.Author.Rules.{rules}
 use Rattle.practice.proofs.draws.task_of.Goals as goal
 
 pub overflow_add-deadline : goal.overflow_add-deadline

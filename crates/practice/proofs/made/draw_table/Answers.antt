@@ -1,7 +1,5 @@
-use Prim.Native.Nat.{◌-◌, ◌≤◌}
 use native.Mathlib.Omega.{arith}
-use Rattle.practice.proofs.DrawLaws.{few_entries, Drawing, drawing_start, drawing_step, drawing_end}
-use borrow.Author.Rules.{rules}
+use Rattle.practice.proofs.DrawLaws.{few_entries, drawing_start, drawing_step, drawing_end}
 use Rattle.practice.proofs.made.draw_table.Goals as goal
 
 pub loop-i-init : goal.loop-i-init

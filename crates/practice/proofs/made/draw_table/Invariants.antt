@@ -1,8 +1,6 @@
 -- The invariant: the first i tasks are drawn, and s is the last draw. Assumes nothing.
 use Prim.Native.Nat.{◌-◌, ◌≤◌}
-use native.Mathlib.Omega.{arith}
-use Rattle.practice.proofs.DrawLaws.{few_entries, Drawing, drawing_start, drawing_step, drawing_end}
-use borrow.Author.Rules.{rules}
+use Rattle.practice.proofs.DrawLaws.{Drawing}
 use Rattle.practice.proofs.made.draw_table.Given as goal
 
 abbrev pub invariant-loop-i : goal.invariant-loop-i

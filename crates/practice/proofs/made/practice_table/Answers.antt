@@ -6,7 +6,6 @@ use Rattle.tasks.specs.Sheet.{accepted_as}
 use Rattle.tasks.proofs.Answers.{sheet_told}
 use Rattle.practice.specs.Practice.{practice_table}
 use Rattle.practice.proofs.Theorems.{practice_refused, practice_made}
-use borrow.Author.Rules.{rules}
 use Rattle.practice.proofs.made.practice_table.Goals as goal
 
 pub returns-then-fault-gt0 : goal.returns-then-fault-gt0

@@ -3,7 +3,6 @@ use mathlib.Core.Path.{ap, ◌∙◌}
 use Rattle.tasks.proofs.Answers.{sheet_reading}
 use Rattle.ronchhek.specs.Cuts.{first_number, first_space}
 use Rattle.ronchhek.proofs.CutLaws.{cut_refused, cut_first}
-use borrow.Author.Rules.{rules}
 use Rattle.ronchhek.proofs.cuts.ronchhek_cut.Goals as goal
 
 pub returns-in-Refused : goal.returns-in-Refused

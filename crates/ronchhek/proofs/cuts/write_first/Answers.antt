@@ -4,7 +4,6 @@ use Rattle.tasks.specs.Sheet.{write_out}
 use Rattle.tasks.proofs.Answers.{sheet_reading}
 use Rattle.ronchhek.specs.Tables.{sheet_number}
 use Rattle.ronchhek.proofs.CutLaws.{first_refused, first_written}
-use borrow.Author.Rules.{rules}
 use Rattle.ronchhek.proofs.cuts.write_first.Goals as goal
 
 pub returns-in-Refused : goal.returns-in-Refused

@@ -1,7 +1,6 @@
 -- The number of each answer. Assumes nothing.
 use Rattle.closed.specs.declared.check.ClosedAnswer.TheVariants as ClosedAnswer
 use Rattle.ronchhek.proofs.FileLaws.{file_judged}
-use borrow.Author.Rules.{rules}
 use Rattle.ronchhek.proofs.files.ronchhek_closed.Goals as goal
 
 pub returns-in-Accepted : goal.returns-in-Accepted

@@ -1,11 +1,10 @@
 -- Policy, m or n is refused, or the practice table is written. Assumes nothing.
-use mathlib.Core.Path.{◌≡◌, ap, ◌∙◌}
+use mathlib.Core.Path.{ap, ◌∙◌}
 use Rattle.tasks.specs.Sheet.{write_out}
 use Rattle.tasks.proofs.Answers.{sheet_reading}
 use Rattle.practice.proofs.Theorems.{answer_made}
 use Rattle.ronchhek.specs.Tables.{sheet_number}
 use Rattle.ronchhek.proofs.PracticeLaws.{number_refused, practice_written}
-use borrow.Author.Rules.{rules}
 use Rattle.ronchhek.proofs.practices.ronchhek_practice.Goals as goal
 
 pub returns-in-Refused : goal.returns-in-Refused

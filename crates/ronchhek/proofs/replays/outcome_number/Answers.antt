@@ -1,7 +1,6 @@
 -- A tick below 2^48 has room beside the kind. Assumes nothing.
 use Rattle.tasks.specs.Replay.{outcome_tick}
 use native.Mathlib.Omega.{arith}
-use borrow.Author.Rules.{rules}
 use Rattle.ronchhek.proofs.replays.outcome_number.Goals as goal
 
 pub overflow_add-result : goal.overflow_add-result

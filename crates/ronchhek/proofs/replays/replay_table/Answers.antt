@@ -7,7 +7,6 @@ use Rattle.slots.specs.StateSpace.{state_space}
 use Rattle.ronchhek.specs.Replays.{refused_at}
 use Rattle.ronchhek.proofs.ReplayLaws.{told, not_written, written_room, long_number, refused_number, unwritten_number, played_number, long_space, refused_space, played_space}
 use native.Mathlib.Omega.{arith}
-use borrow.Author.Rules.{rules}
 use Rattle.ronchhek.proofs.replays.replay_table.Goals as goal
 
 pub returns-then-list-ge281474976710656 : goal.returns-then-list-ge281474976710656

@@ -2,7 +2,6 @@
 use Rattle.ronchhek.specs.Replays.{table_number, table_space, call_number, call_space}
 use Rattle.tasks.proofs.Answers.{sheet_reading}
 use mathlib.Core.Path.{ap, ◌∙◌}
-use borrow.Author.Rules.{rules}
 use Rattle.ronchhek.proofs.replays.ronchhek_replay.Goals as goal
 
 pub returns-in-Refused : goal.returns-in-Refused

@@ -6,7 +6,6 @@ use Rattle.tasks.proofs.RoundTrip.{read_valid}
 use Rattle.ronchhek.specs.Replays.{table_number, call_number}
 use Rattle.ronchhek.specs.Services.{table_totals, call_totals}
 use native.Mathlib.Omega.{arith}
-use borrow.Author.Rules.{rules}
 use Rattle.ronchhek.proofs.services.ronchhek_service.Goals as goal
 
 pub service_table-requires : goal.service_table-requires

@@ -6,7 +6,6 @@ use Rattle.ronchhek.specs.Replays.{refused_at}
 use Rattle.ronchhek.proofs.ReplayLaws.{told, not_written, written_room, long_number, refused_number, unwritten_number, played_number}
 use Rattle.ronchhek.proofs.ServiceLaws.{long_totals, table_written}
 use native.Mathlib.Omega.{arith}
-use borrow.Author.Rules.{rules}
 use Rattle.ronchhek.proofs.services.service_table.Goals as goal
 
 pub returns-then-list-ge281474976710656 : goal.returns-then-list-ge281474976710656

@@ -1,6 +1,5 @@
 use Rattle.session.specs.declared.calls.Call.TheVariants as Call
 use Rattle.ronchhek.proofs.SessionLaws.{number_told}
-use borrow.Author.Rules.{rules}
 use Rattle.ronchhek.proofs.sessions.ronchhek_session_return.Goals as goal
 
 pub returns : goal.returns

@@ -1,10 +1,7 @@
 -- The invariant: the first i numbers are read. Assumes nothing.
 use Prim.Native.Nat.{◌+◌, ◌-◌, ◌*◌, ◌≤◌}
-use mathlib.Core.Path.{refl}
 use lib.ListN.{get_or}
-use Rattle.lists.proofs.Fill.{Filled, filled_start, filled_store, filled_end}
-use native.Mathlib.Omega.{arith}
-use borrow.Author.Rules.{rules}
+use Rattle.lists.proofs.Fill.{Filled}
 use Rattle.ronchhek.proofs.tables.column.Given as goal
 
 abbrev pub invariant-loop-i : goal.invariant-loop-i

@@ -1,12 +1,11 @@
-use Prim.Native.Nat.{ℕ, suc, ◌+◌, ◌-◌, ◌*◌, ◌≤◌}
+use Prim.Native.Nat.{ℕ, suc, ◌+◌, ◌*◌}
 use mathlib.Core.Path.{◌≡◌, ◌∙◌}
 use mathlib.Core.List.{[], ◌∷◌}
 use lib.ListN.{length, get_or, set, length-set}
-use Rattle.tasks.proofs.Stores.{Storing, storing_start, storing_step, storing_end}
+use Rattle.tasks.proofs.Stores.{storing_start, storing_step, storing_end}
 use Rattle.ronchhek.specs.Tables.{entries, table_bytes}
 use Rattle.ronchhek.proofs.TableLaws.{entries_turn, entries_end, entries_length}
 use native.Mathlib.Omega.{arith}
-use borrow.Author.Rules.{rules}
 use Rattle.ronchhek.proofs.tables.put_table.Goals as goal
 
 pub bounds-out-1 : goal.bounds-out-1

@@ -1,13 +1,8 @@
 -- The invariant: what is left of the tasks' numbers, stored from the present place, is all of them. Assumes nothing.
-use Prim.Native.Nat.{ℕ, suc, ◌+◌, ◌-◌, ◌*◌, ◌≤◌}
-use mathlib.Core.Path.{◌≡◌, ◌∙◌}
-use mathlib.Core.List.{[], ◌∷◌}
-use lib.ListN.{length, get_or, set, length-set}
-use Rattle.tasks.proofs.Stores.{Storing, storing_start, storing_step, storing_end}
-use Rattle.ronchhek.specs.Tables.{entries, table_bytes}
-use Rattle.ronchhek.proofs.TableLaws.{entries_turn, entries_end, entries_length}
-use native.Mathlib.Omega.{arith}
-use borrow.Author.Rules.{rules}
+use Prim.Native.Nat.{◌+◌, ◌-◌, ◌*◌, ◌≤◌}
+use lib.ListN.{length}
+use Rattle.tasks.proofs.Stores.{Storing}
+use Rattle.ronchhek.specs.Tables.{entries}
 use Rattle.ronchhek.proofs.tables.put_table.Given as goal
 
 abbrev pub invariant-loop-i : goal.invariant-loop-i

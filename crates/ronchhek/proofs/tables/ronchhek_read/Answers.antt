@@ -5,7 +5,6 @@ use Rattle.tasks.proofs.Answers.{sheet_reading}
 use Rattle.tasks.proofs.Listed.{sheet_refusal_lem}
 use Rattle.ronchhek.specs.Tables.{table_bytes}
 use Rattle.ronchhek.proofs.TableLaws.{read_refused, read_short, read_done}
-use borrow.Author.Rules.{rules}
 use Rattle.ronchhek.proofs.tables.ronchhek_read.Goals as goal
 
 pub returns-then-table-lt27 : goal.returns-then-table-lt27

@@ -3,7 +3,6 @@ use mathlib.Core.Path.{ap, ◌∙◌}
 use Rattle.tasks.specs.Sheet.{write_out}
 use Rattle.ronchhek.specs.Tables.{sheet_number}
 use Rattle.ronchhek.proofs.TableLaws.{table_short, table_long, table_whole}
-use borrow.Author.Rules.{rules}
 use Rattle.ronchhek.proofs.tables.ronchhek_write.Goals as goal
 
 pub returns-then-table-lt27 : goal.returns-then-table-lt27

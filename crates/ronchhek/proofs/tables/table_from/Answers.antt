@@ -1,5 +1,4 @@
 use Rattle.ronchhek.specs.Tables.{table_from}
-use borrow.Author.Rules.{rules}
 use Rattle.ronchhek.proofs.tables.table_from.Goals as goal
 
 pub returns : goal.returns

@@ -3,7 +3,6 @@ use mathlib.Core.Path.{sym, ap, ◌∙◌}
 use Rattle.tasks.specs.Answers.{writing_answer}
 use Rattle.ronchhek.proofs.TableLaws.{sheet_refused, sheet_written}
 use native.Mathlib.Omega.{arith}
-use borrow.Author.Rules.{rules}
 use Rattle.ronchhek.proofs.tables.write_table.Goals as goal
 
 pub overflow_add-result : goal.overflow_add-result

@@ -1,8 +1,6 @@
 -- Each figure fits its own bits. Assumes nothing.
-use Prim.Native.Nat.{◌-◌}
 use Rattle.ronchhek.specs.Verdicts.{packed}
 use native.Mathlib.Omega.{arith}
-use borrow.Author.Rules.{rules}
 use Rattle.ronchhek.proofs.verdicts.pack.Goals as goal
 
 pub overflow_add-result : goal.overflow_add-result

@@ -1,9 +1,7 @@
 -- The figures of the search of the sheet, packed. Assumes nothing.
-use Prim.Native.Nat.{◌-◌}
 use Rattle.search.specs.Claim.{figures}
 use Rattle.search.proofs.ClaimLaws.{slots_few}
 use Rattle.ronchhek.proofs.VerdictLaws.{search_low}
-use borrow.Author.Rules.{rules}
 use Rattle.ronchhek.proofs.verdicts.ronchhek_verdict.Goals as goal
 
 pub pack-requires : goal.pack-requires

@@ -1,6 +1,5 @@
 -- No tight job, no miss; else the full mask is ticked. Assumes nothing.
 use mathlib.Core.Path.{sym, ◌∙◌}
-use borrow.Author.Rules.{rules}
 use Rattle.search.proofs.hunt.has_miss.Goals as goal
 
 pub returns-then-tight : goal.returns-then-tight

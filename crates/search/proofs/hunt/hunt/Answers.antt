@@ -1,20 +1,18 @@
-use mathlib.Core.Path.{◌≡◌, sym, ap, ◌∙◌}
-use Prim.Native.Nat.{ℕ, ◌-◌, ◌≤◌, ◌<◌}
-use mathlib.Core.Logic.{⊎_elim}
+use mathlib.Core.Path.{sym, ap, ◌∙◌}
+use Prim.Native.Nat.{◌<◌}
 use Rattle.tasks.specs.State.{improper}
 use Rattle.tasks.specs.Tick.{after, missed}
 use Rattle.tasks.specs.Masks.{free_mask}
-use Rattle.tasks.specs.Ticker.{ticked_by}
 use Rattle.tasks.specs.Words.{state_of}
 use Rattle.tasks.proofs.InWords.{WordList}
 use Rattle.tasks.proofs.Free.{ticks, frees}
-use Rattle.levels.specs.Levels.{Calm, Hunting}
+use Rattle.levels.specs.Levels.{Calm}
 use Rattle.levels.proofs.Explore.{hunt_start}
 use Rattle.states.specs.System.{system}
 use Rattle.states.specs.Bytes.{state_in}
 use Rattle.states.proofs.MaskLaws.{walked_start, walked_next, walked_falls}
 use Rattle.states.proofs.MissLaws.{calm_by}
-use Rattle.search.proofs.HuntLaws.{CalmTo, calm_end, hunt_turn, miss_from}
+use Rattle.search.proofs.HuntLaws.{calm_end, hunt_turn, miss_from}
 use native.Mathlib.Omega.{arith}
 use borrow.Author.Rules.{rules}
 use Rattle.search.proofs.hunt.hunt.Goals as goal
@@ -59,8 +57,8 @@ hunt-preserved c =
     let proper = level.proper h.i below in
     let calm : Calm (system a.t) s =
     elim c.if-has_miss.branch [
-      then-has_miss+else-loop-m-test w ↦ calm_end a.t level.valid s proper (rw (← w.loop-m.invariant.1) w.loop-m.invariant.0) w.loop-m-test.false
-    | else-has_miss w ↦ calm_by a.t level.valid s proper c.words_in-v.ensures c.requires.0 (record { word = λ i h. search rules }) (sym c.has_miss.ensures ∙ w.if-has_miss.false)
+      | then-has_miss+else-loop-m-test w ↦ calm_end a.t level.valid s proper (rw (← w.loop-m.invariant.1) w.loop-m.invariant.0) w.loop-m-test.false
+      | else-has_miss w ↦ calm_by a.t level.valid s proper c.words_in-v.ensures c.requires.0 (record { word = λ i h. search rules }) (sym c.has_miss.ensures ∙ w.if-has_miss.false)
     ] in
     (omega arith, omega arith, hunt_turn a.t a.work.now h.invariant.2 calm)
 

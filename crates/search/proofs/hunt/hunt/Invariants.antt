@@ -1,23 +1,14 @@
 -- The invariant of the slots: no mask misses from those passed; of the masks: none of those passed misses. Assumes nothing.
-use mathlib.Core.Path.{◌≡◌, sym, ap, ◌∙◌}
-use Prim.Native.Nat.{ℕ, ◌-◌, ◌≤◌, ◌<◌}
-use mathlib.Core.Logic.{⊎_elim}
-use Rattle.tasks.specs.State.{improper}
-use Rattle.tasks.specs.Tick.{after, missed}
+use mathlib.Core.Path.{◌≡◌}
+use Prim.Native.Nat.{ℕ, ◌-◌, ◌≤◌}
+use Rattle.tasks.specs.Tick.{after}
 use Rattle.tasks.specs.Masks.{free_mask}
 use Rattle.tasks.specs.Ticker.{ticked_by}
 use Rattle.tasks.specs.Words.{state_of}
-use Rattle.tasks.proofs.InWords.{WordList}
-use Rattle.tasks.proofs.Free.{ticks, frees}
-use Rattle.levels.specs.Levels.{Calm, Hunting}
-use Rattle.levels.proofs.Explore.{hunt_start}
+use Rattle.levels.specs.Levels.{Hunting}
 use Rattle.states.specs.System.{system}
 use Rattle.states.specs.Bytes.{state_in}
-use Rattle.states.proofs.MaskLaws.{walked_start, walked_next, walked_falls}
-use Rattle.states.proofs.MissLaws.{calm_by}
-use Rattle.search.proofs.HuntLaws.{CalmTo, calm_end, hunt_turn, miss_from}
-use native.Mathlib.Omega.{arith}
-use borrow.Author.Rules.{rules}
+use Rattle.search.proofs.HuntLaws.{CalmTo}
 use Rattle.search.proofs.hunt.hunt.Given as goal
 
 abbrev pub invariant-loop-m : goal.invariant-loop-m

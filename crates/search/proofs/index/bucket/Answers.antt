@@ -4,7 +4,6 @@ use mathlib.Core.Path.{ap}
 use lib.Bits.{bit_and, and_le_r}
 use Rattle.search.specs.Indexed.{bucket_for}
 use native.Mathlib.Omega.{arith}
-use borrow.Author.Rules.{rules}
 use Rattle.search.proofs.index.bucket.Goals as goal
 
 pub returns : goal.returns

@@ -1,10 +1,8 @@
 use Prim.Native.Nat.{◌-◌}
 use mathlib.Core.Path.{◌≡◌, sym, ◌∙◌}
-use lib.ListN.{length}
 use Rattle.tasks.specs.Words.{state_of}
-use Rattle.levels.proofs.Index.{Walk, walk_start, walk_next, walk_falls, walk_end}
-use Rattle.states.specs.Keys.{key_in}
-use Rattle.search.specs.Indexed.{bucket_for, bucket_of, tag_of, newest, tags_in}
+use Rattle.levels.proofs.Index.{walk_start, walk_next, walk_falls, walk_end}
+use Rattle.search.specs.Indexed.{bucket_of, tag_of, newest, tags_in}
 use Rattle.states.proofs.WordLaws.{word_bytes}
 use Rattle.states.proofs.KeyLaws.{Bytes, keys_same, keys_differ}
 use Rattle.search.proofs.IndexLaws.{keyed, not_tagged}

@@ -4,7 +4,6 @@ use mathlib.Core.Path.{ap, ◌∙◌}
 use Rattle.search.specs.Indexed.{tag_for}
 use Rattle.search.proofs.TagLaws.{tag_small}
 use native.Mathlib.Omega.{arith}
-use borrow.Author.Rules.{rules}
 use Rattle.search.proofs.index.tag_bit.Goals as goal
 
 pub returns : goal.returns

@@ -3,7 +3,6 @@ use mathlib.Core.Path.{refl, ap}
 use native.Mathlib.Numerals.{add-one}
 use Rattle.search.specs.declared.run.SearchAnswer.TheVariants as SearchAnswer
 use native.Mathlib.Omega.{arith}
-use borrow.Author.Rules.{rules}
 use Rattle.search.proofs.outcome.report.Goals as goal
 
 pub write_trace-requires : goal.write_trace-requires

@@ -1,12 +1,8 @@
 use mathlib.Core.Path.{◌≡◌, refl, ◌∙◌}
-use Prim.Native.Nat.{ℕ, ◌+◌, ◌-◌, ◌≤◌, ◌<◌}
-use mathlib.Core.List.{◌++◌}
-use lib.ListN.{length, drop, length-set}
-use Rattle.levels.specs.Levels.{trail}
-use Rattle.slots.specs.Layout.{columns, parent_at, mask_at}
+use Prim.Native.Nat.{◌-◌}
+use lib.ListN.{length-set}
 use Rattle.search.proofs.ReportLaws.{trace_turn, trace_end}
 use native.Mathlib.Omega.{arith}
-use borrow.Author.Rules.{rules}
 use Rattle.search.proofs.outcome.write_trace.Goals as goal
 
 pub bounds-trace-d : goal.bounds-trace-d

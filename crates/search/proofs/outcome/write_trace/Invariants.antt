@@ -1,13 +1,10 @@
 -- The invariant: the masks from the present tick on are written. Assumes nothing.
-use mathlib.Core.Path.{◌≡◌, refl, ◌∙◌}
-use Prim.Native.Nat.{ℕ, ◌+◌, ◌-◌, ◌≤◌, ◌<◌}
+use mathlib.Core.Path.{◌≡◌}
+use Prim.Native.Nat.{ℕ, ◌≤◌, ◌<◌}
 use mathlib.Core.List.{◌++◌}
-use lib.ListN.{length, drop, length-set}
+use lib.ListN.{length, drop}
 use Rattle.levels.specs.Levels.{trail}
 use Rattle.slots.specs.Layout.{columns, parent_at, mask_at}
-use Rattle.search.proofs.ReportLaws.{trace_turn, trace_end}
-use native.Mathlib.Omega.{arith}
-use borrow.Author.Rules.{rules}
 use Rattle.search.proofs.outcome.write_trace.Given as goal
 
 abbrev pub invariant-loop-at : goal.invariant-loop-at

@@ -1,10 +1,7 @@
-use mathlib.Core.Path.{◌≡◌, refl, ◌∙◌}
-use Prim.Native.Nat.{◌-◌}
-use lib.ListN.{length}
+use mathlib.Core.Path.{refl, ◌∙◌}
 use Rattle.tasks.specs.Words.{state_of}
-use Rattle.search.proofs.RunLaws.{Stands, none_indexed, first_stands, stands_level, next_stands, ran_miss, ran_safe, ran_full}
+use Rattle.search.proofs.RunLaws.{none_indexed, first_stands, stands_level, next_stands, ran_miss, ran_safe, ran_full}
 use native.Mathlib.Omega.{arith}
-use borrow.Author.Rules.{rules}
 use Rattle.search.proofs.run.run_levels.Goals as goal
 
 pub push-requires : goal.push-requires

@@ -1,7 +1,6 @@
 -- What the levels leave, with the parents in the place of the words and the report, is what the claim says. Assumes nothing.
 use native.Mathlib.Omega.{arith}
 use Rattle.search.proofs.ClaimLaws.{ran_found}
-use borrow.Author.Rules.{rules}
 use Rattle.search.proofs.search.finish.Goals as goal
 
 pub settle-requires : goal.settle-requires

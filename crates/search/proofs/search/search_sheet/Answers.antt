@@ -3,13 +3,11 @@ use Rattle.tasks.specs.Sheet.{sheet_of}
 use Rattle.tasks.specs.declared.sheet.Reading.TheVariants.{Refused}
 use Rattle.tasks.proofs.Listed.{sheet_refusal_lem, read_accepted}
 use mathlib.Core.Path.{◌≡◌, sym, ◌∙◌}
-use Prim.Native.Nat.{◌-◌}
 use Rattle.tasks.proofs.Answers.{sheet_is, sheet_reading}
 use Rattle.tasks.proofs.RoundTrip.{read_valid}
 use Rattle.search.specs.Claim.{slots_in}
 use Rattle.search.proofs.ClaimLaws.{sheet_fault, sheet_read, refused_search}
 use native.Mathlib.Omega.{arith}
-use borrow.Author.Rules.{rules}
 use Rattle.search.proofs.search.search_sheet.Goals as goal
 
 pub search_valid-requires : goal.search_valid-requires

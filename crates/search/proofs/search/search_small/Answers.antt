@@ -2,7 +2,6 @@
 use mathlib.Core.Path.{refl}
 use Rattle.search.proofs.ClaimLaws.{lent_fresh, finishing}
 use native.Mathlib.Omega.{arith}
-use borrow.Author.Rules.{rules}
 use Rattle.search.proofs.search.search_small.Goals as goal
 
 pub search_levels-end-requires : goal.search_levels-end-requires

@@ -1,8 +1,6 @@
 -- The table is refused, or it is valid and is searched. Assumes nothing.
-use Prim.Native.Nat.{◌-◌}
 use Rattle.search.specs.Claim.{slots_in}
 use Rattle.search.proofs.ClaimLaws.{table_fault_lem, table_valid, refused_search}
-use borrow.Author.Rules.{rules}
 use Rattle.search.proofs.search.search_table.Goals as goal
 
 pub returns-then-fault-gt0 : goal.returns-then-fault-gt0

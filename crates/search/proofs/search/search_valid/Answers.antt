@@ -3,7 +3,6 @@ use Rattle.search.specs.Claim.{slots_in}
 use Rattle.search.proofs.ClaimLaws.{slots_is, refusal_nine, refusal_ten, refusal_zero, refused_search, found_search}
 use mathlib.Core.Path.{sym, ◌∙◌}
 use native.Mathlib.Omega.{arith}
-use borrow.Author.Rules.{rules}
 use Rattle.search.proofs.search.search_valid.Goals as goal
 
 pub returns-then-k-eq0 : goal.returns-then-k-eq0

@@ -1,9 +1,6 @@
-use mathlib.Core.Path.{◌≡◌, refl, ◌∙◌}
-use Prim.Native.Nat.{◌-◌, ◌≤◌}
-use lib.ListN.{length}
-use Rattle.search.proofs.StoreLaws.{BlockTo, block_start, block_ready, block_row, block_full, block_end}
+use mathlib.Core.Path.{refl, ◌∙◌}
+use Rattle.search.proofs.StoreLaws.{block_start, block_ready, block_row, block_full, block_end}
 use native.Mathlib.Omega.{arith}
-use borrow.Author.Rules.{rules}
 use Rattle.search.proofs.store.store_block.Goals as goal
 
 pub loop-i-init : goal.loop-i-init

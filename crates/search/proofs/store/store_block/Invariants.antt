@@ -1,10 +1,8 @@
 -- The invariant: the successors of the slots passed are stored. Assumes nothing.
-use mathlib.Core.Path.{◌≡◌, refl, ◌∙◌}
+use mathlib.Core.Path.{◌≡◌}
 use Prim.Native.Nat.{◌-◌, ◌≤◌}
 use lib.ListN.{length}
-use Rattle.search.proofs.StoreLaws.{BlockTo, block_start, block_ready, block_row, block_full, block_end}
-use native.Mathlib.Omega.{arith}
-use borrow.Author.Rules.{rules}
+use Rattle.search.proofs.StoreLaws.{BlockTo}
 use Rattle.search.proofs.store.store_block.Given as goal
 
 abbrev pub invariant-loop-i : goal.invariant-loop-i

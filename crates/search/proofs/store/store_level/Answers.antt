@@ -1,9 +1,6 @@
-use mathlib.Core.Path.{◌≡◌, refl, ◌∙◌}
-use Prim.Native.Nat.{◌-◌, ◌≤◌}
-use lib.ListN.{length}
-use Rattle.search.proofs.StoreLaws.{LevelTo, level_start, level_low, level_ready, level_block, level_full, level_end}
+use mathlib.Core.Path.{refl, ◌∙◌}
+use Rattle.search.proofs.StoreLaws.{level_start, level_low, level_ready, level_block, level_full, level_end}
 use native.Mathlib.Omega.{arith}
-use borrow.Author.Rules.{rules}
 use Rattle.search.proofs.store.store_level.Goals as goal
 
 pub loop-i-init : goal.loop-i-init

@@ -1,10 +1,8 @@
 -- The invariant: the successors of the slots passed are stored, block by block. Assumes nothing.
-use mathlib.Core.Path.{◌≡◌, refl, ◌∙◌}
+use mathlib.Core.Path.{◌≡◌}
 use Prim.Native.Nat.{◌-◌, ◌≤◌}
 use lib.ListN.{length}
-use Rattle.search.proofs.StoreLaws.{LevelTo, level_start, level_low, level_ready, level_block, level_full, level_end}
-use native.Mathlib.Omega.{arith}
-use borrow.Author.Rules.{rules}
+use Rattle.search.proofs.StoreLaws.{LevelTo}
 use Rattle.search.proofs.store.store_level.Given as goal
 
 abbrev pub invariant-loop-i : goal.invariant-loop-i

@@ -1,15 +1,9 @@
-use mathlib.Core.Path.{◌≡◌, refl, ap, ◌∙◌}
-use Prim.Native.Nat.{◌-◌, ◌≤◌}
-use mathlib.Core.Logic.{⊎_elim}
-use lib.ListN.{length}
+use mathlib.Core.Path.{refl, ap, ◌∙◌}
 use Rattle.tasks.specs.State.{improper}
 use Rattle.tasks.specs.Tick.{after}
 use Rattle.tasks.specs.Masks.{free_mask}
-use Rattle.tasks.specs.Ticker.{ticker_of}
-use Rattle.tasks.specs.declared.table.Table.{Table}
 use Rattle.tasks.proofs.InWords.{WordList}
 use Rattle.tasks.proofs.Free.{ticks, frees}
-use Rattle.search.specs.Keeping.{RowReady}
 use Rattle.search.proofs.StoreLaws.{RowBy, row_start, row_known, row_added, row_crowded, row_falls, row_end}
 use native.Mathlib.Omega.{arith}
 use borrow.Author.Rules.{rules}
@@ -66,22 +60,22 @@ loop-m-preserved c =
     let b = c.loop-m-test.true in
     let call = c.try_mask-a in
     elim c.match-a.branch [
-      in-Nothing w ↦ (
-      omega (arith, w.n-is),
-      call.auto.heads ∙ c.loop-m.invariant.1,
-      λ t e ready.
-          let x = c.loop-m.invariant.2 t e ready in
-          let y = rw w.in-Nothing.is at (rw (x.ticks _) at call.ensures) in
-          record { is = x.is; ticks = x.ticks; row = rw (c.follow-m.ensures, w.n-is) (row_known ready x.row x.is b y) },
-    )
-    | in-New w ↦ (
-      omega (arith, w.n-is),
-      call.auto.heads ∙ c.loop-m.invariant.1,
-      λ t e ready.
-          let x = c.loop-m.invariant.2 t e ready in
-          let y = rw w.in-New.is at (rw (x.ticks _) at call.ensures) in
-          record { is = x.is; ticks = x.ticks; row = rw (c.follow-m.ensures, w.n-is) (row_added ready x.row x.is b y) },
-    )
+      | in-Nothing w ↦ (
+        omega (arith, w.n-is),
+        call.auto.heads ∙ c.loop-m.invariant.1,
+        λ t e ready.
+            let x = c.loop-m.invariant.2 t e ready in
+            let y = rw w.in-Nothing.is at (rw (x.ticks _) at call.ensures) in
+            record { is = x.is; ticks = x.ticks; row = rw (c.follow-m.ensures, w.n-is) (row_known ready x.row x.is b y) },
+      )
+      | in-New w ↦ (
+        omega (arith, w.n-is),
+        call.auto.heads ∙ c.loop-m.invariant.1,
+        λ t e ready.
+            let x = c.loop-m.invariant.2 t e ready in
+            let y = rw w.in-New.is at (rw (x.ticks _) at call.ensures) in
+            record { is = x.is; ticks = x.ticks; row = rw (c.follow-m.ensures, w.n-is) (row_added ready x.row x.is b y) },
+      )
     ]
 
 pub shape_of-work : goal.shape_of-work

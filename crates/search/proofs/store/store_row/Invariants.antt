@@ -1,19 +1,11 @@
 -- The invariant: the successors under the masks passed are stored. Assumes nothing.
-use mathlib.Core.Path.{◌≡◌, refl, ap, ◌∙◌}
+use mathlib.Core.Path.{◌≡◌}
 use Prim.Native.Nat.{◌-◌, ◌≤◌}
-use mathlib.Core.Logic.{⊎_elim}
 use lib.ListN.{length}
-use Rattle.tasks.specs.State.{improper}
-use Rattle.tasks.specs.Tick.{after}
-use Rattle.tasks.specs.Masks.{free_mask}
 use Rattle.tasks.specs.Ticker.{ticker_of}
 use Rattle.tasks.specs.declared.table.Table.{Table}
-use Rattle.tasks.proofs.InWords.{WordList}
-use Rattle.tasks.proofs.Free.{ticks, frees}
 use Rattle.search.specs.Keeping.{RowReady}
-use Rattle.search.proofs.StoreLaws.{RowBy, row_start, row_known, row_added, row_crowded, row_falls, row_end}
-use native.Mathlib.Omega.{arith}
-use borrow.Author.Rules.{rules}
+use Rattle.search.proofs.StoreLaws.{RowBy}
 use Rattle.search.proofs.store.store_row.Given as goal
 
 abbrev pub invariant-loop-m : goal.invariant-loop-m

@@ -1,7 +1,6 @@
 -- The successor is known, or is pushed as a new slot, or there is no slot left for it. Assumes nothing.
 use mathlib.Core.Path.{refl}
 use native.Mathlib.Omega.{arith}
-use borrow.Author.Rules.{rules}
 use Rattle.search.proofs.store.try_mask.Goals as goal
 
 pub returns-then-holds : goal.returns-then-holds

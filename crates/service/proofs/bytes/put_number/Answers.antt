@@ -1,11 +1,10 @@
-use Prim.Native.Nat.{suc, ◌+◌, ◌-◌, ◌≤◌}
+use Prim.Native.Nat.{suc, ◌+◌, ◌-◌}
 use mathlib.Core.Path.{◌≡◌}
 use native.Mathlib.Omega.{arith}
 use native.Mathlib.Nat.{add-zero}
-use Rattle.tasks.proofs.Stores.{Storing, storing_start, storing_end}
+use Rattle.tasks.proofs.Stores.{storing_start, storing_end}
 use Rattle.service.specs.Bytes.{low_first}
 use Rattle.service.proofs.ByteLaws.{low_length, low_turn}
-use borrow.Author.Rules.{rules}
 use Rattle.service.proofs.bytes.put_number.Goals as goal
 
 pub loop-k-init : goal.loop-k-init

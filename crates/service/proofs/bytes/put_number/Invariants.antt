@@ -1,12 +1,7 @@
 -- The invariant: the k lowest bytes are written. Assumes nothing.
-use Prim.Native.Nat.{suc, ◌+◌, ◌-◌, ◌≤◌}
-use mathlib.Core.Path.{◌≡◌}
-use native.Mathlib.Omega.{arith}
-use native.Mathlib.Nat.{add-zero}
-use Rattle.tasks.proofs.Stores.{Storing, storing_start, storing_end}
+use Prim.Native.Nat.{◌+◌, ◌-◌, ◌≤◌}
+use Rattle.tasks.proofs.Stores.{Storing}
 use Rattle.service.specs.Bytes.{low_first}
-use Rattle.service.proofs.ByteLaws.{low_length, low_turn}
-use borrow.Author.Rules.{rules}
 use Rattle.service.proofs.bytes.put_number.Given as goal
 
 abbrev pub invariant-loop-k : goal.invariant-loop-k

@@ -1,6 +1,5 @@
 -- Three numbers, one after the other. Assumes nothing.
 use Rattle.service.proofs.ByteLaws.{row_put}
-use borrow.Author.Rules.{rules}
 use Rattle.service.proofs.bytes.put_row.Goals as goal
 
 pub returns : goal.returns

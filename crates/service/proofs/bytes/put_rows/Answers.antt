@@ -1,11 +1,7 @@
-use Prim.Native.Nat.{◌-◌, ◌≤◌}
 use mathlib.Core.Path.{◌≡◌, refl, ◌∙◌}
-use lib.ListN.{length}
-use lib.Seq.{sets, length-sets}
-use Rattle.service.specs.Bytes.{rows_of}
+use lib.Seq.{length-sets}
 use Rattle.service.proofs.ByteLaws.{rows_none, rows_turn}
 use native.Mathlib.Omega.{arith}
-use borrow.Author.Rules.{rules}
 use Rattle.service.proofs.bytes.put_rows.Goals as goal
 
 pub loop-i-init : goal.loop-i-init

@@ -1,12 +1,9 @@
 -- The invariant: the rows of the first i tasks are written. Assumes nothing.
 use Prim.Native.Nat.{◌-◌, ◌≤◌}
-use mathlib.Core.Path.{◌≡◌, refl, ◌∙◌}
+use mathlib.Core.Path.{◌≡◌}
 use lib.ListN.{length}
-use lib.Seq.{sets, length-sets}
+use lib.Seq.{sets}
 use Rattle.service.specs.Bytes.{rows_of}
-use Rattle.service.proofs.ByteLaws.{rows_none, rows_turn}
-use native.Mathlib.Omega.{arith}
-use borrow.Author.Rules.{rules}
 use Rattle.service.proofs.bytes.put_rows.Given as goal
 
 abbrev pub invariant-loop-i : goal.invariant-loop-i

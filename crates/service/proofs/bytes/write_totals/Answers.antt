@@ -3,7 +3,6 @@ use mathlib.Core.Path.{◌∙◌}
 use lib.ListN.{length}
 use borrow.Author.Tests.{lt-ltb, le-ltb}
 use Rattle.service.proofs.ByteLaws.{space_short, space_front}
-use borrow.Author.Rules.{rules}
 use Rattle.service.proofs.bytes.write_totals.Goals as goal
 
 pub returns-then-out-lt192 : goal.returns-then-out-lt192

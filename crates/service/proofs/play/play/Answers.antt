@@ -1,7 +1,5 @@
-use Prim.Native.Nat.{◌-◌, ◌≤◌}
 use mathlib.Core.Path.{sym, ◌∙◌}
-use lib.ListN.{length}
-use Rattle.service.proofs.Playing.{Playing, playing_start, playing_room, playing_kept, playing_refused, playing_missed, playing_next}
+use Rattle.service.proofs.Playing.{playing_start, playing_room, playing_kept, playing_refused, playing_missed, playing_next}
 use native.Mathlib.Omega.{arith}
 use borrow.Author.Rules.{rules}
 use Rattle.service.proofs.play.play.Goals as goal

@@ -1,10 +1,7 @@
 -- The invariant: what is known of a list on its way. Assumes nothing.
 use Prim.Native.Nat.{◌-◌, ◌≤◌}
-use mathlib.Core.Path.{sym, ◌∙◌}
 use lib.ListN.{length}
-use Rattle.service.proofs.Playing.{Playing, playing_start, playing_room, playing_kept, playing_refused, playing_missed, playing_next}
-use native.Mathlib.Omega.{arith}
-use borrow.Author.Rules.{rules}
+use Rattle.service.proofs.Playing.{Playing}
 use Rattle.service.proofs.play.play.Given as goal
 
 abbrev pub invariant-loop-i : goal.invariant-loop-i

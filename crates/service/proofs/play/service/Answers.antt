@@ -2,7 +2,6 @@
 use mathlib.Core.Path.{◌∙◌}
 use Rattle.service.proofs.Balance.{no_totals, account_told}
 use native.Mathlib.Omega.{arith}
-use borrow.Author.Rules.{rules}
 use Rattle.service.proofs.play.service.Goals as goal
 
 pub returns-then-fault-gt0 : goal.returns-then-fault-gt0

@@ -1,5 +1,4 @@
 -- The work left is that of the state. Assumes nothing.
-use borrow.Author.Rules.{rules}
 use Rattle.service.proofs.totals.account_of.Goals as goal
 
 pub returns : goal.returns

@@ -1,10 +1,6 @@
-use Prim.Native.Nat.{◌-◌, ◌≤◌}
 use mathlib.Core.Path.{refl}
-use mathlib.Core.Bool.{false}
 use native.Mathlib.Omega.{arith}
-use Rattle.lists.proofs.Fill.{Filled, filled_start, filled_store, filled_end}
-use Rattle.tasks.specs.Tick.{bit}
-use borrow.Author.Rules.{rules}
+use Rattle.lists.proofs.Fill.{filled_start, filled_store, filled_end}
 use Rattle.service.proofs.totals.named.Goals as goal
 
 pub loop-i-init : goal.loop-i-init

@@ -1,11 +1,8 @@
 -- The invariant: the bits of the first i tasks are read. Assumes nothing.
 use Prim.Native.Nat.{◌-◌, ◌≤◌}
-use mathlib.Core.Path.{refl}
 use mathlib.Core.Bool.{false}
-use native.Mathlib.Omega.{arith}
-use Rattle.lists.proofs.Fill.{Filled, filled_start, filled_store, filled_end}
+use Rattle.lists.proofs.Fill.{Filled}
 use Rattle.tasks.specs.Tick.{bit}
-use borrow.Author.Rules.{rules}
 use Rattle.service.proofs.totals.named.Given as goal
 
 abbrev pub invariant-loop-i : goal.invariant-loop-i

@@ -1,12 +1,11 @@
-use Prim.Native.Nat.{◌+◌, ◌-◌, ◌≤◌}
+use Prim.Native.Nat.{◌+◌}
 use mathlib.Core.Path.{refl, ap}
 use mathlib.Core.Bool.{false}
 use lib.ListN.{get_or}
 use native.Mathlib.Omega.{arith}
-use Rattle.lists.proofs.Fill.{Filled, filled_start, filled_store, filled_end}
+use Rattle.lists.proofs.Fill.{filled_start, filled_store, filled_end}
 use Rattle.lists.proofs.Turns.{bool_byte_lem, pick_most}
-use Rattle.service.specs.Raised.{Room, raised_at}
-use borrow.Author.Rules.{rules}
+use Rattle.service.specs.Raised.{raised_at}
 use Rattle.service.proofs.totals.raised.Goals as goal
 
 pub loop-i-init : goal.loop-i-init

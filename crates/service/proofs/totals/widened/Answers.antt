@@ -1,9 +1,7 @@
-use Prim.Native.Nat.{◌-◌, ◌≤◌}
-use mathlib.Core.Path.{◌≡◌, refl, sym, ◌∙◌}
-use lib.ListN.{length, get_or}
+use mathlib.Core.Path.{refl, sym, ◌∙◌}
 use lib.Seq.{ext_get_or}
 use native.Mathlib.Omega.{arith}
-use Rattle.lists.proofs.Fill.{Filled, filled_start, filled_store}
+use Rattle.lists.proofs.Fill.{filled_start, filled_store}
 use borrow.Author.Rules.{rules}
 use Rattle.service.proofs.totals.widened.Goals as goal
 

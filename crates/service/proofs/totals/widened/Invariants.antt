@@ -1,11 +1,8 @@
 -- The invariant: the first i bytes are widened. Assumes nothing.
 use Prim.Native.Nat.{◌-◌, ◌≤◌}
-use mathlib.Core.Path.{◌≡◌, refl, sym, ◌∙◌}
+use mathlib.Core.Path.{◌≡◌}
 use lib.ListN.{length, get_or}
-use lib.Seq.{ext_get_or}
-use native.Mathlib.Omega.{arith}
-use Rattle.lists.proofs.Fill.{Filled, filled_start, filled_store}
-use borrow.Author.Rules.{rules}
+use Rattle.lists.proofs.Fill.{Filled}
 use Rattle.service.proofs.totals.widened.Given as goal
 
 abbrev pub invariant-loop-i : goal.invariant-loop-i

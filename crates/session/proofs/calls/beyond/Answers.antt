@@ -1,7 +1,6 @@
 use mathlib.Core.Path.{sym, refl, ◌∙◌}
 use Rattle.lists.proofs.Picks.{pick_yes, pick_no}
 use Rattle.session.specs.Session.{beyond}
-use borrow.Author.Rules.{rules}
 use Rattle.session.proofs.calls.beyond.Goals as goal
 
 pub returns-then-outside : goal.returns-then-outside

@@ -1,6 +1,5 @@
 use mathlib.Core.Path.{sym, ap}
 use Rattle.session.specs.Session.{step_answer}
-use borrow.Author.Rules.{rules}
 use Rattle.session.proofs.calls.without_state.Goals as goal
 
 pub returns-in-Next : goal.returns-in-Next

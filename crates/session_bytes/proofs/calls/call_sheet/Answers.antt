@@ -2,7 +2,6 @@ use mathlib.Core.Path.{◌∙◌}
 use Rattle.tasks.proofs.Answers.{sheet_reading}
 use Rattle.tasks.proofs.Listed.{sheet_refusal_lem}
 use Rattle.session_bytes.proofs.CallLaws.{sheet_refused, space_short, sheet_called}
-use borrow.Author.Rules.{rules}
 use Rattle.session_bytes.proofs.calls.call_sheet.Goals as goal
 
 pub returns-then-space-lt145 : goal.returns-then-space-lt145

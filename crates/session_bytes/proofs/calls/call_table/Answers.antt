@@ -2,7 +2,6 @@ use mathlib.Core.Path.{refl, ap, ◌∙◌}
 use Rattle.session.specs.Session.{outcome}
 use Rattle.session.proofs.CallLaws.{called_is}
 use Rattle.session_bytes.proofs.CallLaws.{table_told}
-use borrow.Author.Rules.{rules}
 use Rattle.session_bytes.proofs.calls.call_table.Goals as goal
 
 pub returns-in-Done : goal.returns-in-Done

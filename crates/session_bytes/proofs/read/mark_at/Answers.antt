@@ -2,7 +2,6 @@ use mathlib.Core.Path.{sym, ap, ◌∙◌}
 use mathlib.Core.Bool.{true, false}
 use Rattle.lists.proofs.Picks.{pick_in, pick_no}
 use Rattle.session_bytes.specs.Space.{mark_from}
-use borrow.Author.Rules.{rules}
 use Rattle.session_bytes.proofs.read.mark_at.Goals as goal
 
 pub returns-then-has_bit : goal.returns-then-has_bit

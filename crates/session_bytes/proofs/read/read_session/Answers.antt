@@ -1,11 +1,8 @@
-use Prim.Native.Nat.{◌-◌, ◌≤◌}
 use mathlib.Core.Path.{ap, ap₂}
 use lib.ListN.{length}
-use Rattle.lists.proofs.Fill.{Filled, filled_start, filled_store, filled_end}
-use Rattle.session.specs.Session.{empty}
-use Rattle.session_bytes.specs.Space.{mark_from, session_from}
+use Rattle.lists.proofs.Fill.{filled_start, filled_store, filled_end}
+use Rattle.session_bytes.specs.Space.{session_from}
 use native.Mathlib.Omega.{arith}
-use borrow.Author.Rules.{rules}
 use Rattle.session_bytes.proofs.read.read_session.Goals as goal
 
 pub loop-i-init : goal.loop-i-init

@@ -1,6 +1,5 @@
 use mathlib.Core.Path.{◌∙◌}
 use Rattle.session_bytes.proofs.SpaceLaws.{state_after}
-use borrow.Author.Rules.{rules}
 use Rattle.session_bytes.proofs.read.state_at.Goals as goal
 
 pub returns : goal.returns

@@ -1,11 +1,8 @@
-use Prim.Native.Nat.{◌-◌, ◌≤◌}
-use mathlib.Core.Path.{◌≡◌, refl, ◌∙◌}
-use lib.ListN.{length}
+use mathlib.Core.Path.{refl, ◌∙◌}
 use Rattle.lists.proofs.Turns.{at_end}
 use Rattle.session_bytes.specs.Space.{marks_written}
 use Rattle.session_bytes.proofs.SpaceLaws.{mark_length, marks_none, marks_turn}
 use native.Mathlib.Omega.{arith}
-use borrow.Author.Rules.{rules}
 use Rattle.session_bytes.proofs.write.put_marks.Goals as goal
 
 pub loop-i-init : goal.loop-i-init

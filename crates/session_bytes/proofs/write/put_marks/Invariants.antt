@@ -1,11 +1,7 @@
 use Prim.Native.Nat.{◌-◌, ◌≤◌}
-use mathlib.Core.Path.{◌≡◌, refl, ◌∙◌}
+use mathlib.Core.Path.{◌≡◌}
 use lib.ListN.{length}
-use Rattle.lists.proofs.Turns.{at_end}
 use Rattle.session_bytes.specs.Space.{marks_written}
-use Rattle.session_bytes.proofs.SpaceLaws.{mark_length, marks_none, marks_turn}
-use native.Mathlib.Omega.{arith}
-use borrow.Author.Rules.{rules}
 use Rattle.session_bytes.proofs.write.put_marks.Given as goal
 
 abbrev pub invariant-loop-i : goal.invariant-loop-i

@@ -1,7 +1,6 @@
 use Rattle.session_bytes.specs.Space.{place}
 use Rattle.session_bytes.proofs.SpaceLaws.{state_put}
 use native.Mathlib.Omega.{arith}
-use borrow.Author.Rules.{rules}
 use Rattle.session_bytes.proofs.write.put_state.Goals as goal
 
 pub returns : goal.returns

@@ -5,7 +5,6 @@ use Rattle.states.specs.Bytes.{state_bytes}
 use Rattle.session_bytes.specs.Space.{marks_written, session_written}
 use Rattle.session_bytes.proofs.SpaceLaws.{marks_length}
 use native.Mathlib.Omega.{arith}
-use borrow.Author.Rules.{rules}
 use Rattle.session_bytes.proofs.write.write_session.Goals as goal
 
 pub put_marks-requires : goal.put_marks-requires

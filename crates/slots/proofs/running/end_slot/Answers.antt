@@ -1,7 +1,6 @@
 -- Whether it is the last slot of its block. Assumes nothing.
 use borrow.Author.Tests.{eq-eqb, ne_eqb}
 use Rattle.slots.specs.Running.{ends_after}
-use borrow.Author.Rules.{rules}
 use Rattle.slots.proofs.running.end_slot.Goals as goal
 
 pub returns-then-i-eq4095 : goal.returns-then-i-eq4095

@@ -1,6 +1,5 @@
 -- The end, or n. Assumes nothing.
 use native.Mathlib.Omega.{arith}
-use borrow.Author.Rules.{rules}
 use Rattle.slots.proofs.running.end_within.Goals as goal
 
 pub overflow_cast-end : goal.overflow_cast-end

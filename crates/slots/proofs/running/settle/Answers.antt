@@ -1,10 +1,6 @@
-use Prim.Native.Nat.{◌-◌, ◌<◌, ◌≤◌}
 use mathlib.Core.Path.{◌≡◌, refl, ◌∙◌}
-use lib.ListN.{length}
-use Rattle.slots.specs.Running.{Ended, Settling}
 use Rattle.slots.proofs.RunningLaws.{block_is, ended_more, ended_next, ended_low, settling_start, settling_end}
 use native.Mathlib.Omega.{arith}
-use borrow.Author.Rules.{rules}
 use Rattle.slots.proofs.running.settle.Goals as goal
 
 pub loop-from-init : goal.loop-from-init

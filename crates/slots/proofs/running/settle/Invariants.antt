@@ -1,11 +1,8 @@
 -- The invariant: the first slots have their parents, and where some are left the blocks before b have ended. Assumes nothing.
 use Prim.Native.Nat.{◌-◌, ◌<◌, ◌≤◌}
-use mathlib.Core.Path.{◌≡◌, refl, ◌∙◌}
+use mathlib.Core.Path.{◌≡◌}
 use lib.ListN.{length}
 use Rattle.slots.specs.Running.{Ended, Settling}
-use Rattle.slots.proofs.RunningLaws.{block_is, ended_more, ended_next, ended_low, settling_start, settling_end}
-use native.Mathlib.Omega.{arith}
-use borrow.Author.Rules.{rules}
 use Rattle.slots.proofs.running.settle.Given as goal
 
 abbrev pub invariant-loop-from : goal.invariant-loop-from

@@ -1,11 +1,6 @@
-use Prim.Native.Nat.{ℕ, ◌-◌, ◌<◌, ◌≤◌}
-use mathlib.Core.Path.{◌≡◌, refl, sym, ◌∙◌}
-use mathlib.Core.List.{List}
-use lib.ListN.{length, get_or}
-use Rattle.slots.specs.Running.{block_of, Settling}
+use mathlib.Core.Path.{refl, sym, ◌∙◌}
 use Rattle.slots.proofs.RunningLaws.{settling_next}
 use native.Mathlib.Omega.{arith}
-use borrow.Author.Rules.{rules}
 use Rattle.slots.proofs.running.settle_block.Goals as goal
 
 pub loop-i-init : goal.loop-i-init

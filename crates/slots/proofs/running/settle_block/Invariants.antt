@@ -1,12 +1,9 @@
 -- The invariant: the slots up to i have their parents. Assumes nothing.
 use Prim.Native.Nat.{ℕ, ◌-◌, ◌<◌, ◌≤◌}
-use mathlib.Core.Path.{◌≡◌, refl, sym, ◌∙◌}
+use mathlib.Core.Path.{◌≡◌}
 use mathlib.Core.List.{List}
 use lib.ListN.{length, get_or}
 use Rattle.slots.specs.Running.{block_of, Settling}
-use Rattle.slots.proofs.RunningLaws.{settling_next}
-use native.Mathlib.Omega.{arith}
-use borrow.Author.Rules.{rules}
 use Rattle.slots.proofs.running.settle_block.Given as goal
 
 abbrev pub invariant-loop-i : goal.invariant-loop-i

@@ -3,7 +3,6 @@ use Prim.Native.Nat.{◌+◌, ◌*◌, ◌/◌}
 use Rattle.slots.specs.Layout.{four_bytes}
 use Rattle.slots.proofs.Bytes.{lent_sets, four_length}
 use native.Mathlib.Omega.{arith}
-use borrow.Author.Rules.{rules}
 use Rattle.slots.proofs.running.settle_slot.Goals as goal
 
 pub returns : goal.returns

@@ -6,7 +6,6 @@ use Rattle.states.specs.Bytes.{state_bytes}
 use Rattle.slots.specs.Layout.{four_bytes, write_part}
 use Rattle.slots.proofs.Bytes.{lent_three, state_length, four_length}
 use native.Mathlib.Omega.{arith}
-use borrow.Author.Rules.{rules}
 use Rattle.slots.proofs.write.put_slot.Goals as goal
 
 pub returns : goal.returns

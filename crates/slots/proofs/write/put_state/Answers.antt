@@ -1,13 +1,9 @@
-use Prim.Native.Nat.{◌-◌, ◌≤◌}
 use mathlib.Core.Path.{◌≡◌, refl, sym, ◌∙◌}
-use lib.ListN.{length, get_or, length-set}
-use lib.Seq.{sets}
-use Rattle.tasks.specs.Words.{state_of}
+use lib.ListN.{length-set}
 use Rattle.tasks.proofs.InWords.{work_word, gap_word}
-use Rattle.states.specs.Bytes.{twos, state_bytes}
+use Rattle.states.specs.Bytes.{state_bytes}
 use Rattle.slots.proofs.WriteLaws.{put_turn}
 use native.Mathlib.Omega.{arith}
-use borrow.Author.Rules.{rules}
 use Rattle.slots.proofs.write.put_state.Goals as goal
 
 pub loop-k-init : goal.loop-k-init

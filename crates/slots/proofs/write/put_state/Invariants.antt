@@ -1,14 +1,10 @@
 -- The invariant: the bytes of the first k tasks are stored.
 use Prim.Native.Nat.{◌-◌, ◌≤◌}
-use mathlib.Core.Path.{◌≡◌, refl, sym, ◌∙◌}
-use lib.ListN.{length, get_or, length-set}
+use mathlib.Core.Path.{◌≡◌}
+use lib.ListN.{length, get_or}
 use lib.Seq.{sets}
 use Rattle.tasks.specs.Words.{state_of}
-use Rattle.tasks.proofs.InWords.{work_word, gap_word}
-use Rattle.states.specs.Bytes.{twos, state_bytes}
-use Rattle.slots.proofs.WriteLaws.{put_turn}
-use native.Mathlib.Omega.{arith}
-use borrow.Author.Rules.{rules}
+use Rattle.states.specs.Bytes.{twos}
 use Rattle.slots.proofs.write.put_state.Given as goal
 
 abbrev pub invariant-loop-k : goal.invariant-loop-k

@@ -1,6 +1,5 @@
 -- By what the four numbers are. Assumes nothing.
 use Rattle.states.specs.Keys.{key_in}
-use Rattle.std.proofs.Common.{rules}
 use Rattle.states.proofs.column.key_in.Goals as goal
 
 pub returns : goal.returns

@@ -1,5 +1,4 @@
 use Rattle.states.specs.Bytes.{state_in}
-use Rattle.std.proofs.Common.{rules}
 use Rattle.states.proofs.column.words_in.Goals as goal
 
 pub returns : goal.returns

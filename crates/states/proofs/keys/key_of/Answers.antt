@@ -1,5 +1,5 @@
 -- By what the words of a key are. Assumes nothing.
-use Rattle.std.proofs.Common.{◌∙◌, arith, rules}
+use Rattle.std.proofs.Common.{◌∙◌, arith}
 use Rattle.states.specs.Keys.{key_of}
 use Rattle.states.proofs.WordLaws.{key_word}
 use Rattle.states.proofs.keys.key_of.Goals as goal

@@ -1,5 +1,5 @@
 -- The next legal mask, or 256 after the last. Assumes nothing.
-use Rattle.std.proofs.Common.{sym, ◌∙◌, rules}
+use Rattle.std.proofs.Common.{sym, ◌∙◌}
 use Rattle.states.proofs.MaskLaws.{follows_end, follows_on}
 use Rattle.states.proofs.masks.follow.Goals as goal
 

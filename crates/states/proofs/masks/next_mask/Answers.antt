@@ -1,5 +1,5 @@
 -- The next submask in increasing order. Assumes nothing.
-use Rattle.std.proofs.Common.{ap, arith, rules}
+use Rattle.std.proofs.Common.{ap, arith}
 use lib.Bits.{bit_and}
 use Rattle.states.specs.Masks.{next_mask}
 use Rattle.states.proofs.MaskLaws.{wrapped}

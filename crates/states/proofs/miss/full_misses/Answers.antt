@@ -1,6 +1,5 @@
 -- The full mask is ticked. Assumes nothing.
 use Rattle.states.specs.Miss.{full_by}
-use Rattle.std.proofs.Common.{rules}
 use Rattle.states.proofs.miss.full_misses.Goals as goal
 
 pub returns : goal.returns

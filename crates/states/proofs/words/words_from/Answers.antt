@@ -1,5 +1,5 @@
-use Rattle.std.proofs.Common.{◌+◌, ◌-◌, ◌*◌, ◌≤◌, get_or, refl, ap, ◌∙◌, arith, rules}
-use Rattle.lists.proofs.Fill.{Filled, filled_start, filled_store, filled_end}
+use Rattle.std.proofs.Common.{refl, ap, ◌∙◌, arith}
+use Rattle.lists.proofs.Fill.{filled_start, filled_store, filled_end}
 use Rattle.tasks.specs.Words.{state_of}
 use Rattle.states.proofs.WordLaws.{loaded}
 use Rattle.states.proofs.words.words_from.Goals as goal

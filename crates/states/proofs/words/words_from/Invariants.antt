@@ -1,8 +1,6 @@
 -- The invariant: the words of the first k tasks are loaded. Assumes nothing.
-use Rattle.std.proofs.Common.{◌+◌, ◌-◌, ◌*◌, ◌≤◌, get_or, refl, ap, ◌∙◌, arith, rules}
-use Rattle.lists.proofs.Fill.{Filled, filled_start, filled_store, filled_end}
-use Rattle.tasks.specs.Words.{state_of}
-use Rattle.states.proofs.WordLaws.{loaded}
+use Rattle.std.proofs.Common.{◌+◌, ◌-◌, ◌*◌, ◌≤◌, get_or}
+use Rattle.lists.proofs.Fill.{Filled}
 use Rattle.states.proofs.words.words_from.Given as goal
 
 abbrev pub invariant-loop-k : goal.invariant-loop-k

@@ -4,7 +4,6 @@ use Rattle.tasks.proofs.Again.{copy_refused, copy_accepted}
 use Rattle.tasks.specs.Sheet.{write_answer, write_out}
 use mathlib.Core.Path.{ap, ◌∙◌}
 use native.Mathlib.Omega.{arith}
-use borrow.Author.Rules.{rules}
 use Rattle.tasks.proofs.copies.copy_sheet.Goals as goal
 
 pub returns-in-Refused : goal.returns-in-Refused

@@ -1,11 +1,8 @@
 -- A turn takes one group off the number and counts its byte. Assumes nothing.
 use Prim.Native.Nat.{◌+◌, ◌≤◌, ◌<◌}
-use mathlib.Core.Path.{◌≡◌, ap}
-use native.Mathlib.Omega.{arith}
+use mathlib.Core.Path.{◌≡◌}
 use lib.ListN.{length}
-use borrow.Author.Rules.{rules}
 use Rattle.tasks.specs.Number.{number_bytes}
-use Rattle.tasks.proofs.Groups.{bytes_low, bytes_high, few_bytes}
 use Rattle.tasks.proofs.number.number_len.Given as goal
 
 abbrev pub invariant-loop-rest : goal.invariant-loop-rest

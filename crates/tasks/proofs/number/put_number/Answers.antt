@@ -5,7 +5,6 @@ use native.Mathlib.Omega.{arith}
 use native.Mathlib.Numerals.{add-one}
 use lib.ListN.{length, set, length-set}
 use lib.Seq.{sets}
-use borrow.Author.Rules.{rules}
 use Rattle.tasks.specs.Number.{number_bytes}
 use Rattle.tasks.proofs.Groups.{bytes_low, bytes_high}
 use Rattle.tasks.proofs.number.put_number.Goals as goal

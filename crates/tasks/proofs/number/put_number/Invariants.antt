@@ -1,14 +1,9 @@
 -- A turn stores one group's byte: what is left to store, stored from the present place, is the whole. Assumes nothing.
-use Prim.Native.Nat.{ℕ, ◌+◌, ◌/◌, ◌%◌, ◌≤◌, ◌<◌}
-use mathlib.Core.Path.{◌≡◌, refl, sym, ap, ◌∙◌}
-use mathlib.Core.List.{List}
-use native.Mathlib.Omega.{arith}
-use native.Mathlib.Numerals.{add-one}
-use lib.ListN.{length, set, length-set}
+use Prim.Native.Nat.{◌+◌, ◌≤◌}
+use mathlib.Core.Path.{◌≡◌}
+use lib.ListN.{length}
 use lib.Seq.{sets}
-use borrow.Author.Rules.{rules}
 use Rattle.tasks.specs.Number.{number_bytes}
-use Rattle.tasks.proofs.Groups.{bytes_low, bytes_high}
 use Rattle.tasks.proofs.number.put_number.Given as goal
 
 abbrev pub invariant-loop-rest : goal.invariant-loop-rest

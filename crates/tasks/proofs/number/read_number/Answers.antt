@@ -5,7 +5,6 @@ use mathlib.Core.List.{List}
 use native.Mathlib.Omega.{arith}
 use lib.ListN.{length, get_or}
 use borrow.Author.Tests.{lt-ltb, le-ltb}
-use borrow.Author.Rules.{rules}
 use Rattle.tasks.specs.Answers.{number_answer}
 use Rattle.tasks.specs.Number.{number_in, number_at}
 use Rattle.tasks.specs.declared.number.Number.TheVariants.{Value, Refused}
@@ -15,26 +14,31 @@ module _ (s : List ℕ) (at : ℕ) where
   ended : length s ≤ at → Refused 1 ≡ number_at s at
   unfolding number_at number_in
   ended h = rw (le-ltb at (length s) h)
+
   module _ (here : at < length s) where
     one : get_or s at 0 < 128 → Value (get_or s at 0) (at + 1) ≡ number_at s at
     unfolding number_at number_in
     one h = rw (lt-ltb at (length s) here, le-ltb (get_or s at 0) 0 (omega arith), lt-ltb (get_or s at 0) 128 h)
+
     module _ (high : 128 ≤ get_or s at 0) where
       cut : length s ≤ at + 1 → Refused 1 ≡ number_at s at
       unfolding number_at number_in
       cut h =
           rw (lt-ltb at (length s) here, le-ltb (get_or s at 0) 0 (omega arith), le-ltb (get_or s at 0) 128 high, le-ltb (at + 1) (length s) h)
+
       module _ (there : at + 1 < length s) where
         zero_last : get_or s (at + 1) 0 < 1 → Refused 2 ≡ number_at s at
         unfolding number_at number_in
         zero_last h =
             rw
             (lt-ltb at (length s) here, le-ltb (get_or s at 0) 0 (omega arith), le-ltb (get_or s at 0) 128 high, lt-ltb (at + 1) (length s) there, lt-ltb (get_or s (at + 1) 0) 1 h)
+
         two : 1 ≤ get_or s (at + 1) 0 → get_or s (at + 1) 0 < 128 → Value (get_or s at 0 - 128 + 128 * get_or s (at + 1) 0) (at + 1 + 1) ≡ number_at s at
         unfolding number_at number_in
         two h k =
             rw
             (lt-ltb at (length s) here, le-ltb (get_or s at 0) 0 (omega arith), le-ltb (get_or s at 0) 128 high, lt-ltb (at + 1) (length s) there, le-ltb (get_or s (at + 1) 0) 1 h, lt-ltb (get_or s (at + 1) 0) 128 k)
+
         third : 128 ≤ get_or s (at + 1) 0 → Refused 2 ≡ number_at s at
         unfolding number_at number_in
         third h =

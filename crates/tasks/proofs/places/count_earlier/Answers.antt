@@ -1,11 +1,8 @@
-use Prim.Native.Nat.{◌≤◌, ◌-◌}
-use mathlib.Core.Path.{◌≡◌}
 use Rattle.lists.specs.Lists.{eight}
 use Rattle.lists.proofs.Turns.{at_end}
 use Rattle.tasks.specs.Places.{earlier_in}
 use Rattle.tasks.proofs.Place.{earlier_start}
 use native.Mathlib.Omega.{arith}
-use borrow.Author.Rules.{rules}
 use Rattle.tasks.proofs.places.count_earlier.Goals as goal
 
 pub loop-j-init : goal.loop-j-init

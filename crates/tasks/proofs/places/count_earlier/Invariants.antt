@@ -2,11 +2,7 @@
 use Prim.Native.Nat.{◌≤◌, ◌-◌}
 use mathlib.Core.Path.{◌≡◌}
 use Rattle.lists.specs.Lists.{eight}
-use Rattle.lists.proofs.Turns.{at_end}
 use Rattle.tasks.specs.Places.{earlier_in}
-use Rattle.tasks.proofs.Place.{earlier_start}
-use native.Mathlib.Omega.{arith}
-use borrow.Author.Rules.{rules}
 use Rattle.tasks.proofs.places.count_earlier.Given as goal
 
 abbrev pub invariant-loop-j : goal.invariant-loop-j

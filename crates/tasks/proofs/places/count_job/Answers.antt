@@ -1,13 +1,11 @@
-use Prim.Native.Nat.{◌+◌, ◌-◌, ◌≤◌}
 use mathlib.Core.Path.{refl}
 use lib.IntN.{pos}
 use lib.ListN.{get_or}
-use Rattle.lists.proofs.Fill.{Filled, filled_start, filled_store, filled_end}
+use Rattle.lists.proofs.Fill.{filled_start, filled_store, filled_end}
 use Rattle.jobs.proofs.Signed.{back}
-use Rattle.tasks.specs.Places.{before_in, earlier_in}
+use Rattle.tasks.specs.Places.{before_in}
 use Rattle.tasks.proofs.Place.{earlier_turn, earlier_room}
 use native.Mathlib.Omega.{arith}
-use borrow.Author.Rules.{rules}
 use Rattle.tasks.proofs.places.count_job.Goals as goal
 
 pub loop-i-init : goal.loop-i-init

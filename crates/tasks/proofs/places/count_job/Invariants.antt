@@ -1,14 +1,7 @@
 -- The invariant: task j is counted for the first i. Assumes nothing.
 use Prim.Native.Nat.{◌+◌, ◌-◌, ◌≤◌}
-use mathlib.Core.Path.{refl}
-use lib.IntN.{pos}
-use lib.ListN.{get_or}
-use Rattle.lists.proofs.Fill.{Filled, filled_start, filled_store, filled_end}
-use Rattle.jobs.proofs.Signed.{back}
-use Rattle.tasks.specs.Places.{before_in, earlier_in}
-use Rattle.tasks.proofs.Place.{earlier_turn, earlier_room}
-use native.Mathlib.Omega.{arith}
-use borrow.Author.Rules.{rules}
+use Rattle.lists.proofs.Fill.{Filled}
+use Rattle.tasks.specs.Places.{earlier_in}
 use Rattle.tasks.proofs.places.count_job.Given as goal
 
 abbrev pub invariant-loop-i : goal.invariant-loop-i

@@ -1,12 +1,6 @@
-use Prim.Native.Nat.{◌≤◌, ◌-◌}
-use mathlib.Core.Path.{◌≡◌, refl, sym, ◌∙◌}
-use mathlib.Core.Bool.{false}
-use lib.ListN.{length, drop}
-use Rattle.tasks.specs.State.{improper}
-use Rattle.tasks.specs.Replay.{played}
+use mathlib.Core.Path.{refl, sym, ◌∙◌}
 use Rattle.tasks.proofs.Played.{played_refused, played_missed, played_next, played_end}
 use native.Mathlib.Omega.{arith}
-use borrow.Author.Rules.{rules}
 use Rattle.tasks.proofs.play.play.Goals as goal
 
 pub loop-i-init : goal.loop-i-init

@@ -3,7 +3,6 @@ use mathlib.Core.Path.{◌≡◌, sym, ◌∙◌}
 use Rattle.tasks.specs.Table.{table_fault}
 use Rattle.tasks.proofs.Played.{from_names, from_fault, from_improper, from_played}
 use native.Mathlib.Omega.{arith}
-use borrow.Author.Rules.{rules}
 use Rattle.tasks.proofs.play.play_on.Goals as goal
 
 pub returns-then-fault-gt0 : goal.returns-then-fault-gt0

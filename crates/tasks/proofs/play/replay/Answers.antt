@@ -1,10 +1,8 @@
 -- From the start state, with no tick before. Assumes nothing.
 use mathlib.Core.Path.{ap, ◌∙◌}
-use Rattle.tasks.specs.State.{start}
 use Rattle.tasks.specs.Replay.{played_from}
 use Rattle.tasks.proofs.Answers.{replay_is}
 use Rattle.tasks.proofs.Played.{replay_names, replayed_from}
-use borrow.Author.Rules.{rules}
 use Rattle.tasks.proofs.play.replay.Goals as goal
 
 pub returns : goal.returns

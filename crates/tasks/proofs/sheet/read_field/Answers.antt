@@ -2,7 +2,6 @@
 use Rattle.tasks.specs.Sheet.{field_at}
 use Rattle.tasks.proofs.Answers.{number_is}
 use mathlib.Core.Path.{sym, ◌∙◌}
-use borrow.Author.Rules.{rules}
 use Rattle.tasks.proofs.sheet.read_field.Goals as goal
 
 pub returns-then-v-low : goal.returns-then-v-low

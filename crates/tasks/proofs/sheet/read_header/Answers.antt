@@ -1,11 +1,9 @@
 -- Each number is refused, or passes its rule and the next is read; the tasks are read with a count of at most 8. Assumes nothing.
 use Rattle.tasks.proofs.Fields.{field_read}
 use Rattle.tasks.specs.Table.{last_policy}
-use Rattle.tasks.specs.Sheet.{field_at, from_policy}
-use Rattle.tasks.specs.declared.number.Number.TheVariants.{Value}
-use mathlib.Core.Path.{◌≡◌, sym, ◌∙◌}
+use Rattle.tasks.specs.Sheet.{from_policy}
+use mathlib.Core.Path.{sym, ◌∙◌}
 use native.Mathlib.Omega.{arith}
-use borrow.Author.Rules.{rules}
 use Rattle.tasks.proofs.sheet.read_header.Goals as goal
 
 pub overflow_cast-policy : goal.overflow_cast-policy

@@ -2,7 +2,6 @@
 use Rattle.tasks.specs.Sheet.{sheet_of}
 use Rattle.tasks.proofs.Answers.{sheet_told}
 use mathlib.Core.Path.{sym, ◌∙◌}
-use borrow.Author.Rules.{rules}
 use Rattle.tasks.proofs.sheet.read_sheet.Goals as goal
 
 pub returns-in-Refused : goal.returns-in-Refused

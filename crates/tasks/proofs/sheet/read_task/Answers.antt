@@ -2,7 +2,6 @@
 use Rattle.tasks.specs.Sheet.{task_at}
 use Rattle.tasks.proofs.Answers.{number_is}
 use mathlib.Core.Path.{sym, ◌∙◌}
-use borrow.Author.Rules.{rules}
 use Rattle.tasks.proofs.sheet.read_task.Goals as goal
 
 pub returns-in-Refused : goal.returns-in-Refused

@@ -10,7 +10,6 @@ use lib.ListN.{length}
 use mathlib.Core.Path.{◌≡◌, sym, ap, ◌∙◌}
 use Prim.Native.Nat.{ℕ, suc, ◌+◌, ◌-◌, ◌≤◌, ◌<◌}
 use native.Mathlib.Omega.{arith}
-use borrow.Author.Rules.{rules}
 use Rattle.tasks.proofs.sheet.read_tasks.Goals as goal
 
 module _ (n i : ℕ) (t : Table) (s : List ℕ) (at : ℕ) where
@@ -18,12 +17,15 @@ module _ (n i : ℕ) (t : Table) (s : List ℕ) (at : ℕ) where
   tasks_left : i < n → tasks_from (n - i) i t s at ≡ after_task (task_at s at) (λ task next. tasks_from (n - (i + 1)) (i + 1) (with_task t i task) s next)
   unfolding tasks_from
   tasks_left h = let e : n - i ≡ suc (n - (i + 1)) = omega arith in ap (λ k. tasks_from k i t s at) e
+
   tasks_end : n ≤ i → tasks_from (n - i) i t s at ≡ pick (ltb at (length s)) (refused_with 8) (accepted_as t)
   unfolding tasks_from
   tasks_end h = let e : n - i ≡ 0 = omega arith in ap (λ k. tasks_from k i t s at) e
+
   -- bytes after the last task, and none
   tasks_over : n ≤ i → at < length s → tasks_from (n - i) i t s at ≡ refused_with 8
   tasks_over h l = rw (tasks_end h, lt-ltb at (length s) l)
+
   tasks_done : n ≤ i → length s ≤ at → tasks_from (n - i) i t s at ≡ accepted_as t
   tasks_done h l = rw (tasks_end h, le-ltb at (length s) l)
 

@@ -1,17 +1,7 @@
 -- The invariant: what is left to read, with the table so far, gives what the whole gives. Assumes nothing.
-use mathlib.Core.List.{List}
-use lib.Dec.{ltb}
-use borrow.Author.Tests.{lt-ltb, le-ltb}
-use Rattle.lists.specs.Lists.{pick}
-use Rattle.tasks.specs.declared.table.Table.{Table}
-use Rattle.tasks.specs.declared.sheet.Task.{Task}
-use Rattle.tasks.specs.declared.sheet.TaskRead.TheVariants as TaskRead
-use Rattle.tasks.specs.Sheet.{task_at, with_task, after_task, tasks_from, from_tasks, refused_with, accepted_as}
-use lib.ListN.{length}
-use mathlib.Core.Path.{◌≡◌, sym, ap, ◌∙◌}
-use Prim.Native.Nat.{ℕ, suc, ◌+◌, ◌-◌, ◌≤◌, ◌<◌}
-use native.Mathlib.Omega.{arith}
-use borrow.Author.Rules.{rules}
+use Rattle.tasks.specs.Sheet.{tasks_from}
+use mathlib.Core.Path.{◌≡◌}
+use Prim.Native.Nat.{◌-◌, ◌≤◌}
 use Rattle.tasks.proofs.sheet.read_tasks.Given as goal
 
 abbrev pub invariant-loop-i : goal.invariant-loop-i

@@ -1,5 +1,4 @@
 -- By what the empty table is. Assumes nothing.
-use borrow.Author.Rules.{rules}
 use Rattle.tasks.proofs.sheet.refused.Goals as goal
 
 pub returns : goal.returns

@@ -3,7 +3,6 @@ use Rattle.tasks.proofs.Tables.{fit_task}
 use Rattle.tasks.specs.Sheet.{task_of}
 use mathlib.Core.Path.{sym, ◌∙◌}
 use native.Mathlib.Omega.{arith}
-use borrow.Author.Rules.{rules}
 use Rattle.tasks.proofs.sheet.task_of.Goals as goal
 
 pub returns-then-breaks : goal.returns-then-breaks

@@ -1,12 +1,8 @@
-use native.Mathlib.Omega.{arith}
 use Prim.Native.Nat.{◌≤◌, ◌-◌}
 use mathlib.Core.Path.{◌≡◌}
 use Rattle.lists.specs.Lists.{any}
-use Rattle.tasks.specs.Tight.{tight_at, tight}
+use Rattle.tasks.specs.Tight.{tight_at}
 use Rattle.tasks.specs.Words.{state_of}
-use Rattle.lists.proofs.Turns.{any_none, any_turn, any_end}
-use Rattle.tasks.proofs.NoMiss.{tight_word}
-use borrow.Author.Rules.{rules}
 use Rattle.tasks.proofs.slack.tight.Given as goal
 
 abbrev pub invariant-loop-i : goal.invariant-loop-i

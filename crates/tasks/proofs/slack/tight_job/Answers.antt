@@ -1,5 +1,4 @@
 use Rattle.tasks.specs.Tight.{tight_job}
-use borrow.Author.Rules.{rules}
 use Rattle.jobs.proofs.Signed.{back}
 use Rattle.tasks.proofs.slack.tight_job.Goals as goal
 

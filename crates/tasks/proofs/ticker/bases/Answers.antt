@@ -1,9 +1,7 @@
-use Prim.Native.Nat.{◌≤◌, ◌-◌}
 use mathlib.Core.Path.{refl}
 use Rattle.tasks.specs.Ticker.{base_at}
-use Rattle.lists.proofs.Fill.{Filled, filled_start, filled_store, filled_end}
+use Rattle.lists.proofs.Fill.{filled_start, filled_store, filled_end}
 use native.Mathlib.Omega.{arith}
-use borrow.Author.Rules.{rules}
 use Rattle.tasks.proofs.ticker.bases.Goals as goal
 
 pub loop-i-init : goal.loop-i-init

@@ -1,9 +1,6 @@
 use Prim.Native.Nat.{◌≤◌, ◌-◌}
-use mathlib.Core.Path.{refl}
 use Rattle.tasks.specs.Ticker.{base_at}
-use Rattle.lists.proofs.Fill.{Filled, filled_start, filled_store, filled_end}
-use native.Mathlib.Omega.{arith}
-use borrow.Author.Rules.{rules}
+use Rattle.lists.proofs.Fill.{Filled}
 use Rattle.tasks.proofs.ticker.bases.Given as goal
 
 abbrev pub invariant-loop-i : goal.invariant-loop-i

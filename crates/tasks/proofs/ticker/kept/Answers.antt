@@ -1,11 +1,7 @@
-use Prim.Native.Nat.{◌≤◌, ◌-◌}
 use mathlib.Core.Path.{refl, ◌∙◌}
-use lib.ListN.{get_or}
 use native.Mathlib.Omega.{arith}
-use Rattle.lists.specs.Lists.{pick}
 use Rattle.tasks.specs.Ticker.{kept_at}
-use Rattle.lists.proofs.Fill.{Filled, filled_start, filled_store, filled_end}
-use borrow.Author.Rules.{rules}
+use Rattle.lists.proofs.Fill.{filled_start, filled_store, filled_end}
 use Rattle.tasks.proofs.ticker.kept.Goals as goal
 
 pub loop-i-init : goal.loop-i-init

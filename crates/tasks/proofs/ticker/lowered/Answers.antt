@@ -1,13 +1,12 @@
-use Prim.Native.Nat.{◌≤◌, ◌-◌}
+use Prim.Native.Nat.{◌-◌}
 use mathlib.Core.Path.{refl, ap, ◌∙◌}
 use lib.ListN.{get_or}
 use Rattle.lists.specs.Lists.{pick}
-use Rattle.lists.proofs.Fill.{eight_same, Filled, filled_start, filled_store, filled_end}
+use Rattle.lists.proofs.Fill.{eight_same, filled_start, filled_store, filled_end}
 use Rattle.cores.specs.Walk.{taken}
 use Rattle.cores.proofs.WalkLaws.{served_at}
 use Rattle.tasks.specs.Ticker.{lowered}
 use native.Mathlib.Omega.{arith}
-use borrow.Author.Rules.{rules}
 use Rattle.tasks.proofs.ticker.lowered.Goals as goal
 
 pub loop-i-init : goal.loop-i-init

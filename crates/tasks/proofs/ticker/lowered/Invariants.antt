@@ -1,13 +1,6 @@
 use Prim.Native.Nat.{◌≤◌, ◌-◌}
-use mathlib.Core.Path.{refl, ap, ◌∙◌}
 use lib.ListN.{get_or}
-use Rattle.lists.specs.Lists.{pick}
-use Rattle.lists.proofs.Fill.{eight_same, Filled, filled_start, filled_store, filled_end}
-use Rattle.cores.specs.Walk.{taken}
-use Rattle.cores.proofs.WalkLaws.{served_at}
-use Rattle.tasks.specs.Ticker.{lowered}
-use native.Mathlib.Omega.{arith}
-use borrow.Author.Rules.{rules}
+use Rattle.lists.proofs.Fill.{Filled}
 use Rattle.tasks.proofs.ticker.lowered.Given as goal
 
 abbrev pub invariant-loop-i : goal.invariant-loop-i

@@ -1,11 +1,7 @@
 use Prim.Native.Nat.{◌≤◌, ◌-◌}
-use mathlib.Core.Path.{refl, ◌∙◌}
 use lib.ListN.{get_or}
-use Rattle.lists.specs.Lists.{eight}
-use Rattle.tasks.specs.Ticker.{place_in, places_in}
-use Rattle.lists.proofs.Fill.{Filled, filled_start, filled_store, filled_end}
-use native.Mathlib.Omega.{arith}
-use borrow.Author.Rules.{rules}
+use Rattle.tasks.specs.Ticker.{place_in}
+use Rattle.lists.proofs.Fill.{Filled}
 use Rattle.tasks.proofs.ticker.new_places.Given as goal
 
 abbrev pub invariant-loop-i : goal.invariant-loop-i

@@ -1,10 +1,6 @@
-use Prim.Native.Nat.{◌≤◌, ◌-◌}
 use mathlib.Core.Path.{refl}
-use lib.ListN.{get_or}
 use native.Mathlib.Omega.{arith}
-use Rattle.tasks.specs.Ticker.{old_word}
-use Rattle.lists.proofs.Fill.{Filled, filled_start, filled_store, filled_end}
-use borrow.Author.Rules.{rules}
+use Rattle.lists.proofs.Fill.{filled_start, filled_store, filled_end}
 use Rattle.tasks.proofs.ticker.old_words.Goals as goal
 
 pub loop-i-init : goal.loop-i-init

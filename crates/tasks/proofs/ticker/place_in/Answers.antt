@@ -1,6 +1,5 @@
 use mathlib.Core.Path.{◌∙◌}
 use Rattle.tasks.specs.Ticker.{place_in}
-use borrow.Author.Rules.{rules}
 use Rattle.tasks.proofs.ticker.place_in.Goals as goal
 
 pub returns : goal.returns

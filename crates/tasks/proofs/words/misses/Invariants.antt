@@ -1,13 +1,8 @@
-use native.Mathlib.Omega.{arith}
 use Prim.Native.Nat.{◌≤◌, ◌-◌}
 use mathlib.Core.Path.{◌≡◌}
 use Rattle.lists.specs.Lists.{any}
 use Rattle.tasks.specs.State.{late}
-use Rattle.tasks.specs.Tick.{missed}
 use Rattle.tasks.specs.Words.{state_of}
-use Rattle.lists.proofs.Turns.{any_none, any_turn, any_end}
-use Rattle.tasks.proofs.InWords.{late_word}
-use borrow.Author.Rules.{rules}
 use Rattle.tasks.proofs.words.misses.Given as goal
 
 abbrev pub invariant-loop-i : goal.invariant-loop-i

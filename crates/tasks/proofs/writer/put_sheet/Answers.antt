@@ -7,7 +7,6 @@ use Rattle.tasks.proofs.Stores.{storing_start, storing_step, storing_room, stori
 use Rattle.tasks.specs.Sheet.{tasks_bytes, sheet_bytes}
 use Rattle.tasks.specs.Number.{number_bytes}
 use mathlib.Core.List.{◌++◌}
-use borrow.Author.Rules.{rules}
 use Rattle.tasks.proofs.writer.put_sheet.Goals as goal
 
 -- the sheet from each number on

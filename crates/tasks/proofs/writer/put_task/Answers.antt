@@ -5,7 +5,6 @@ use lib.ListN.{get_or}
 use mathlib.Core.List.{◌++◌}
 use Rattle.tasks.specs.Sheet.{task_bytes}
 use native.Mathlib.Omega.{arith}
-use borrow.Author.Rules.{rules}
 use Rattle.tasks.proofs.writer.put_task.Goals as goal
 
 pub put_number-a-requires : goal.put_number-a-requires

@@ -3,9 +3,8 @@ use Rattle.tasks.proofs.Sheets.{tasks_bytes_lem, tasks_none}
 use Rattle.tasks.specs.Sheet.{task_bytes, tasks_bytes}
 use mathlib.Core.List.{◌++◌}
 use mathlib.Core.Path.{◌≡◌}
-use Prim.Native.Nat.{◌+◌, ◌-◌, ◌≤◌}
+use Prim.Native.Nat.{◌+◌, ◌-◌}
 use native.Mathlib.Omega.{arith}
-use borrow.Author.Rules.{rules}
 use Rattle.tasks.proofs.writer.put_tasks.Goals as goal
 
 pub loop-i-init : goal.loop-i-init

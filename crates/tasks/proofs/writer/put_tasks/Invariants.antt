@@ -1,12 +1,7 @@
 -- The invariant: what is left to store, stored from the present place, is the whole. Assumes nothing.
-use Rattle.tasks.proofs.Stores.{Storing, storing_start, storing_step, storing_room, storing_end}
-use Rattle.tasks.proofs.Sheets.{tasks_bytes_lem, tasks_none}
-use Rattle.tasks.specs.Sheet.{task_bytes, tasks_bytes}
-use mathlib.Core.List.{◌++◌}
-use mathlib.Core.Path.{◌≡◌}
-use Prim.Native.Nat.{◌+◌, ◌-◌, ◌≤◌}
-use native.Mathlib.Omega.{arith}
-use borrow.Author.Rules.{rules}
+use Rattle.tasks.proofs.Stores.{Storing}
+use Rattle.tasks.specs.Sheet.{tasks_bytes}
+use Prim.Native.Nat.{◌-◌, ◌≤◌}
 use Rattle.tasks.proofs.writer.put_tasks.Given as goal
 
 abbrev pub invariant-loop-i : goal.invariant-loop-i

@@ -2,7 +2,6 @@
 use Rattle.tasks.specs.Sheet.{task_bytes}
 use lib.ListN.{length-append}
 use native.Mathlib.Omega.{arith}
-use borrow.Author.Rules.{rules}
 use Rattle.tasks.proofs.writer.task_len.Goals as goal
 
 pub returns : goal.returns

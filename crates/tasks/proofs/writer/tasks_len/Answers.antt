@@ -2,9 +2,8 @@ use Rattle.tasks.proofs.Sheets.{tasks_length, tasks_no_length}
 use Rattle.tasks.specs.Sheet.{tasks_bytes}
 use lib.ListN.{length}
 use mathlib.Core.Path.{◌≡◌, ap, ◌∙◌}
-use Prim.Native.Nat.{◌+◌, ◌-◌, ◌*◌, ◌≤◌}
+use Prim.Native.Nat.{◌-◌}
 use native.Mathlib.Omega.{arith}
-use borrow.Author.Rules.{rules}
 use Rattle.tasks.proofs.writer.tasks_len.Goals as goal
 
 pub loop-i-init : goal.loop-i-init

@@ -1,11 +1,8 @@
 -- The invariant: the total so far and the length of the tasks that are left make the whole length. Assumes nothing.
-use Rattle.tasks.proofs.Sheets.{tasks_length, tasks_no_length}
 use Rattle.tasks.specs.Sheet.{tasks_bytes}
 use lib.ListN.{length}
-use mathlib.Core.Path.{◌≡◌, ap, ◌∙◌}
+use mathlib.Core.Path.{◌≡◌}
 use Prim.Native.Nat.{◌+◌, ◌-◌, ◌*◌, ◌≤◌}
-use native.Mathlib.Omega.{arith}
-use borrow.Author.Rules.{rules}
 use Rattle.tasks.proofs.writer.tasks_len.Given as goal
 
 abbrev pub invariant-loop-i : goal.invariant-loop-i

@@ -4,7 +4,6 @@ use Rattle.tasks.proofs.Tables.{valid}
 use Prim.Native.Nat.{ℕ, ◌≤◌}
 use mathlib.Core.Path.{◌≡◌, ◌∙◌}
 use native.Mathlib.Omega.{arith}
-use borrow.Author.Rules.{rules}
 use Rattle.tasks.proofs.writer.write_sheet.Goals as goal
 
 -- a number that is not above 0 is 0

@@ -1,10 +1,6 @@
-use Prim.Native.Nat.{◌≤◌, ◌-◌}
-use mathlib.Core.Path.{◌≡◌}
-use Rattle.lists.specs.Lists.{any}
 use Rattle.session.specs.Session.{improper_mark}
 use Rattle.lists.proofs.Turns.{any_none, any_turn, any_end}
 use native.Mathlib.Omega.{arith}
-use borrow.Author.Rules.{rules}
 use Rattle.session.proofs.marks.Session.any_improper.Goals as goal
 
 pub loop-i-init : goal.loop-i-init

@@ -1,7 +1,6 @@
 use mathlib.Core.Path.{ap, ◌∙◌}
 use Rattle.session.specs.Session.{without_state}
 use Rattle.session.proofs.CallLaws.{step_is, called_is, call_told}
-use borrow.Author.Rules.{rules}
 use Rattle.session.proofs.marks.Session.call.Goals as goal
 
 pub returns-in-Step : goal.returns-in-Step

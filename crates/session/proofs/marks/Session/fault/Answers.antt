@@ -2,7 +2,6 @@ use mathlib.Core.Path.{sym, refl, ◌∙◌}
 use borrow.Author.Tests.{lt-ltb, le-ltb}
 use Rattle.lists.proofs.Picks.{pick_yes, pick_no}
 use Rattle.session.specs.Session.{session_fault}
-use borrow.Author.Rules.{rules}
 use Rattle.session.proofs.marks.Session.fault.Goals as goal
 
 pub returns-then-fault-gt0 : goal.returns-then-fault-gt0

@@ -1,4 +1,3 @@
-use borrow.Author.Rules.{rules}
 use Rattle.session.proofs.marks.Session.fresh.Goals as goal
 
 pub returns : goal.returns

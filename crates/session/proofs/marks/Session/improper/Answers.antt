@@ -1,5 +1,4 @@
 use Rattle.session.specs.Session.{improper_session}
-use borrow.Author.Rules.{rules}
 use Rattle.session.proofs.marks.Session.improper.Goals as goal
 
 pub returns : goal.returns

@@ -1,7 +1,6 @@
 use mathlib.Core.Path.{sym, refl, ap, ◌∙◌}
 use Rattle.lists.proofs.Picks.{pick_yes, pick_no}
 use Rattle.session.specs.Session.{never_set}
-use borrow.Author.Rules.{rules}
 use Rattle.session.proofs.marks.Session.never_set.Goals as goal
 
 pub returns-then-mark : goal.returns-then-mark

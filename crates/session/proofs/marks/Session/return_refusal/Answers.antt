@@ -1,6 +1,5 @@
 use mathlib.Core.Path.{ap, ◌∙◌}
 use Rattle.session.specs.Session.{first_of, return_refusal}
-use borrow.Author.Rules.{rules}
 use Rattle.session.proofs.marks.Session.return_refusal.Goals as goal
 
 pub returns : goal.returns

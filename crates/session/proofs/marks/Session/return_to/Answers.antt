@@ -1,6 +1,5 @@
 use Rattle.session.specs.Session.{returned}
 use Rattle.session.proofs.CallLaws.{called_told}
-use borrow.Author.Rules.{rules}
 use Rattle.session.proofs.marks.Session.return_to.Goals as goal
 
 pub returns : goal.returns

@@ -1,6 +1,5 @@
 use Rattle.session.specs.Session.{mark_set}
 use Rattle.session.proofs.CallLaws.{called_told}
-use borrow.Author.Rules.{rules}
 use Rattle.session.proofs.marks.Session.set_mark.Goals as goal
 
 pub returns : goal.returns

@@ -1,5 +1,4 @@
 use Rattle.session.specs.Session.{set_refusal}
-use borrow.Author.Rules.{rules}
 use Rattle.session.proofs.marks.Session.set_refusal.Goals as goal
 
 pub returns : goal.returns

@@ -1,6 +1,5 @@
 use mathlib.Core.Path.{refl}
 use Rattle.session.proofs.CallLaws.{step_told}
-use borrow.Author.Rules.{rules}
 use Rattle.session.proofs.marks.Session.step.Goals as goal
 
 pub returns-in-Next : goal.returns-in-Next

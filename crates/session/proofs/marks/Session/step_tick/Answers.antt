@@ -2,7 +2,6 @@ use borrow.Author.Tests.{lt-ltb, le-ltb}
 use Rattle.lists.proofs.Picks.{pick_yes, pick_no}
 use Rattle.tasks.proofs.Answers.{tick_is}
 use Rattle.session.specs.Session.{step_tick}
-use borrow.Author.Rules.{rules}
 use Rattle.session.proofs.marks.Session.step_tick.Goals as goal
 
 pub returns-then-fault-gt0 : goal.returns-then-fault-gt0

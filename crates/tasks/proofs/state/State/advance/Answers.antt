@@ -1,5 +1,4 @@
 use Rattle.tasks.specs.Tick.{after}
-use borrow.Author.Rules.{rules}
 use Rattle.tasks.proofs.state.State.advance.Goals as goal
 
 pub returns : goal.returns

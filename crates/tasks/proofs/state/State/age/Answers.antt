@@ -1,6 +1,5 @@
 use Rattle.tasks.specs.Tick.{age}
 use Rattle.jobs.proofs.Signed.{back}
-use borrow.Author.Rules.{rules}
 use Rattle.tasks.proofs.state.State.age.Goals as goal
 
 pub returns : goal.returns

@@ -1,11 +1,7 @@
 use Prim.Native.Nat.{◌≤◌, ◌-◌}
-use mathlib.Core.Path.{refl, ◌∙◌}
 use lib.IntN.{pos}
-use Rattle.lists.proofs.Fill.{Filled, filled_start, filled_store, filled_end}
+use Rattle.lists.proofs.Fill.{Filled}
 use Rattle.tasks.specs.Tick.{age}
-use Rattle.jobs.proofs.Signed.{back}
-use native.Mathlib.Omega.{arith}
-use borrow.Author.Rules.{rules}
 use Rattle.tasks.proofs.state.State.ages.Given as goal
 
 abbrev pub invariant-loop-i : goal.invariant-loop-i

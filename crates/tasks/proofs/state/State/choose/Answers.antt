@@ -1,16 +1,11 @@
-use Prim.Native.Nat.{◌≤◌, ◌-◌}
 use mathlib.Core.Path.{refl, ◌∙◌}
-use mathlib.Core.Bool.{false}
-use lib.Dec.{ltb}
-use lib.ListN.{get_or}
 use Rattle.lists.specs.Lists.{eight}
-use Rattle.lists.proofs.Fill.{eight_same, Filled, filled_start, filled_store, filled_end}
+use Rattle.lists.proofs.Fill.{eight_same, filled_start, filled_store, filled_end}
 use Rattle.cores.specs.Walk.{taken}
 use Rattle.cores.proofs.WalkLaws.{served_test}
 use Rattle.tasks.specs.Places.{place}
 use Rattle.tasks.proofs.Place.{taken_chosen, places_placed}
 use native.Mathlib.Omega.{arith}
-use borrow.Author.Rules.{rules}
 use Rattle.tasks.proofs.state.State.choose.Goals as goal
 
 pub loop-i-init : goal.loop-i-init

@@ -1,17 +1,9 @@
 -- The invariant: the first i tasks are read off the walk. Assumes nothing.
 use Prim.Native.Nat.{◌≤◌, ◌-◌}
-use mathlib.Core.Path.{refl, ◌∙◌}
 use mathlib.Core.Bool.{false}
 use lib.Dec.{ltb}
 use lib.ListN.{get_or}
-use Rattle.lists.specs.Lists.{eight}
-use Rattle.lists.proofs.Fill.{eight_same, Filled, filled_start, filled_store, filled_end}
-use Rattle.cores.specs.Walk.{taken}
-use Rattle.cores.proofs.WalkLaws.{served_test}
-use Rattle.tasks.specs.Places.{place}
-use Rattle.tasks.proofs.Place.{taken_chosen, places_placed}
-use native.Mathlib.Omega.{arith}
-use borrow.Author.Rules.{rules}
+use Rattle.lists.proofs.Fill.{Filled}
 use Rattle.tasks.proofs.state.State.choose.Given as goal
 
 abbrev pub invariant-loop-i : goal.invariant-loop-i

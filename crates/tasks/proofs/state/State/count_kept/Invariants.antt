@@ -1,10 +1,7 @@
-use native.Mathlib.Omega.{arith}
 use Prim.Native.Nat.{◌≤◌, ◌-◌}
 use mathlib.Core.Path.{◌≡◌}
 use Rattle.lists.specs.Lists.{count}
 use Rattle.tasks.specs.State.{keeps}
-use Rattle.lists.proofs.Turns.{count_none, count_turn, count_end, count_room}
-use borrow.Author.Rules.{rules}
 use Rattle.tasks.proofs.state.State.count_kept.Given as goal
 
 abbrev pub invariant-loop-i : goal.invariant-loop-i

@@ -1,10 +1,7 @@
-use native.Mathlib.Omega.{arith}
 use Prim.Native.Nat.{◌≤◌, ◌-◌}
 use mathlib.Core.Path.{◌≡◌}
 use Rattle.lists.specs.Lists.{any}
-use Rattle.tasks.specs.Tick.{illegal_at, illegal}
-use Rattle.lists.proofs.Turns.{any_none, any_turn, any_end}
-use borrow.Author.Rules.{rules}
+use Rattle.tasks.specs.Tick.{illegal_at}
 use Rattle.tasks.proofs.state.State.illegal.Given as goal
 
 abbrev pub invariant-loop-i : goal.invariant-loop-i

@@ -1,5 +1,4 @@
 use Rattle.tasks.specs.State.{improper_at}
-use borrow.Author.Rules.{rules}
 use Rattle.tasks.proofs.state.State.improper_at.Goals as goal
 
 pub returns : goal.returns

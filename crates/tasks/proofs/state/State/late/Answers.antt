@@ -1,5 +1,4 @@
 use Rattle.tasks.specs.State.{late}
-use borrow.Author.Rules.{rules}
 use Rattle.tasks.proofs.state.State.late.Goals as goal
 
 pub returns : goal.returns

@@ -1,11 +1,7 @@
 use native.Mathlib.Omega.{arith}
-use Prim.Native.Nat.{◌≤◌, ◌-◌}
-use mathlib.Core.Path.{◌≡◌}
-use Rattle.lists.specs.Lists.{any}
 use Rattle.tasks.specs.State.{late}
 use Rattle.tasks.specs.Tick.{missed}
 use Rattle.lists.proofs.Turns.{any_none, any_turn, any_end}
-use borrow.Author.Rules.{rules}
 use Rattle.tasks.proofs.state.State.missed.Goals as goal
 
 pub loop-i-init : goal.loop-i-init

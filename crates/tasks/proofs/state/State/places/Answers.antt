@@ -1,12 +1,8 @@
-use Prim.Native.Nat.{◌≤◌, ◌-◌}
-use mathlib.Core.Path.{◌≡◌, refl, ◌∙◌}
-use Rattle.lists.specs.Lists.{eight}
-use Rattle.lists.proofs.Fill.{Filled, filled_start, filled_store, filled_end}
-use Rattle.tasks.specs.Tick.{key, age}
-use Rattle.tasks.specs.Places.{place, earlier_in}
+use mathlib.Core.Path.{refl, ◌∙◌}
+use Rattle.lists.proofs.Fill.{filled_start, filled_store, filled_end}
+use Rattle.tasks.specs.Places.{place}
 use Rattle.tasks.proofs.Place.{earlier_counted}
 use native.Mathlib.Omega.{arith}
-use borrow.Author.Rules.{rules}
 use Rattle.tasks.proofs.state.State.places.Goals as goal
 
 pub loop-i-init : goal.loop-i-init

@@ -1,13 +1,10 @@
 -- The invariant: the first i places are made. Assumes nothing.
 use Prim.Native.Nat.{◌≤◌, ◌-◌}
-use mathlib.Core.Path.{◌≡◌, refl, ◌∙◌}
+use mathlib.Core.Path.{◌≡◌}
 use Rattle.lists.specs.Lists.{eight}
-use Rattle.lists.proofs.Fill.{Filled, filled_start, filled_store, filled_end}
+use Rattle.lists.proofs.Fill.{Filled}
 use Rattle.tasks.specs.Tick.{key, age}
 use Rattle.tasks.specs.Places.{place, earlier_in}
-use Rattle.tasks.proofs.Place.{earlier_counted}
-use native.Mathlib.Omega.{arith}
-use borrow.Author.Rules.{rules}
 use Rattle.tasks.proofs.state.State.places.Given as goal
 
 abbrev pub invariant-loop-i : goal.invariant-loop-i

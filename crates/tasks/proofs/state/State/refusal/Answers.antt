@@ -2,7 +2,6 @@ use Rattle.lists.proofs.Picks.{pick_yes, pick_no}
 use mathlib.Core.Path.{sym, ◌∙◌, refl}
 use borrow.Author.Tests.{lt-ltb, le-ltb}
 use Rattle.tasks.specs.Tick.{refusal}
-use borrow.Author.Rules.{rules}
 use Rattle.tasks.proofs.state.State.refusal.Goals as goal
 
 pub returns-then-fault-gt0 : goal.returns-then-fault-gt0

@@ -1,9 +1,6 @@
 use Prim.Native.Nat.{◌≤◌, ◌-◌}
-use mathlib.Core.Path.{refl}
-use native.Mathlib.Omega.{arith}
-use Rattle.lists.proofs.Fill.{Filled, filled_start, filled_store, filled_end}
-use Rattle.tasks.specs.Tick.{released_at, released}
-use borrow.Author.Rules.{rules}
+use Rattle.lists.proofs.Fill.{Filled}
+use Rattle.tasks.specs.Tick.{released_at}
 use Rattle.tasks.proofs.state.State.release.Given as goal
 
 abbrev pub invariant-loop-i : goal.invariant-loop-i

@@ -1,9 +1,7 @@
 use native.Mathlib.Omega.{arith}
-use Prim.Native.Nat.{◌≤◌, ◌-◌}
 use mathlib.Core.Path.{refl}
 use Rattle.tasks.specs.Tick.{ran_at, fallen, ran}
-use Rattle.lists.proofs.Fill.{Filled, filled_start, filled_store, filled_end}
-use borrow.Author.Rules.{rules}
+use Rattle.lists.proofs.Fill.{filled_start, filled_store, filled_end}
 use Rattle.tasks.proofs.state.State.run.Goals as goal
 
 pub loop-i-init : goal.loop-i-init

@@ -1,9 +1,6 @@
-use native.Mathlib.Omega.{arith}
 use Prim.Native.Nat.{◌≤◌, ◌-◌}
-use mathlib.Core.Path.{refl}
-use Rattle.tasks.specs.Tick.{ran_at, fallen, ran}
-use Rattle.lists.proofs.Fill.{Filled, filled_start, filled_store, filled_end}
-use borrow.Author.Rules.{rules}
+use Rattle.tasks.specs.Tick.{ran_at, fallen}
+use Rattle.lists.proofs.Fill.{Filled}
 use Rattle.tasks.proofs.state.State.run.Given as goal
 
 abbrev pub invariant-loop-i : goal.invariant-loop-i

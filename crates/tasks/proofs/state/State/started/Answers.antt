@@ -1,6 +1,5 @@
 use mathlib.Core.Path.{refl}
 use Rattle.tasks.specs.State.{started}
-use borrow.Author.Rules.{rules}
 use Rattle.tasks.proofs.state.State.started.Goals as goal
 
 pub returns : goal.returns

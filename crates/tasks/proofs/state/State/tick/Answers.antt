@@ -1,10 +1,8 @@
-use Prim.Native.Nat.{◌≤◌}
 use mathlib.Core.Path.{sym, ap, ◌∙◌}
-use Rattle.tasks.specs.Tick.{refusal, answered}
+use Rattle.tasks.specs.Tick.{answered}
 use Rattle.tasks.specs.declared.tick.TickAnswer.TheVariants.{Next, Missed, Refused}
 use Rattle.tasks.proofs.Answers.{tick_told}
 use Rattle.tasks.proofs.Answered.{ticked_refused, ticked_missed, ticked_next}
-use borrow.Author.Rules.{rules}
 use Rattle.tasks.proofs.state.State.tick.Goals as goal
 
 pub returns-then-why-gt0 : goal.returns-then-why-gt0

@@ -1,10 +1,8 @@
 use native.Mathlib.Omega.{arith}
-use Prim.Native.Nat.{◌≤◌, ◌+◌, ◌-◌, ◌*◌}
+use Prim.Native.Nat.{◌+◌, ◌*◌}
 use mathlib.Core.Path.{refl, ap₂}
-use lib.ListN.{get_or}
 use Rattle.tasks.specs.Words.{words_of}
-use Rattle.lists.proofs.Fill.{Filled, filled_start, filled_store, filled_end}
-use borrow.Author.Rules.{rules}
+use Rattle.lists.proofs.Fill.{filled_start, filled_store, filled_end}
 use Rattle.tasks.proofs.state.State.words.Goals as goal
 
 pub loop-i-init : goal.loop-i-init

@@ -1,10 +1,6 @@
-use native.Mathlib.Omega.{arith}
 use Prim.Native.Nat.{◌≤◌, ◌+◌, ◌-◌, ◌*◌}
-use mathlib.Core.Path.{refl, ap₂}
 use lib.ListN.{get_or}
-use Rattle.tasks.specs.Words.{words_of}
-use Rattle.lists.proofs.Fill.{Filled, filled_start, filled_store, filled_end}
-use borrow.Author.Rules.{rules}
+use Rattle.lists.proofs.Fill.{Filled}
 use Rattle.tasks.proofs.state.State.words.Given as goal
 
 abbrev pub invariant-loop-i : goal.invariant-loop-i

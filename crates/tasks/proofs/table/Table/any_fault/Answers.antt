@@ -1,10 +1,6 @@
 use native.Mathlib.Omega.{arith}
-use Prim.Native.Nat.{◌≤◌, ◌-◌}
-use mathlib.Core.Path.{◌≡◌}
-use Rattle.lists.specs.Lists.{any}
 use Rattle.tasks.specs.Table.{fault_at}
 use Rattle.lists.proofs.Turns.{any_none, any_turn, any_end}
-use borrow.Author.Rules.{rules}
 use Rattle.tasks.proofs.table.Table.any_fault.Goals as goal
 
 pub loop-i-init : goal.loop-i-init

@@ -1,11 +1,8 @@
 -- The invariant: whether one of the first i entries is at fault. Assumes nothing.
-use native.Mathlib.Omega.{arith}
 use Prim.Native.Nat.{◌≤◌, ◌-◌}
 use mathlib.Core.Path.{◌≡◌}
 use Rattle.lists.specs.Lists.{any}
 use Rattle.tasks.specs.Table.{fault_at}
-use Rattle.lists.proofs.Turns.{any_none, any_turn, any_end}
-use borrow.Author.Rules.{rules}
 use Rattle.tasks.proofs.table.Table.any_fault.Given as goal
 
 abbrev pub invariant-loop-i : goal.invariant-loop-i

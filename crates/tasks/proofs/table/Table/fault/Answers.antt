@@ -7,7 +7,6 @@ use native.Mathlib.Omega.{arith}
 use lib.Dec.{ltb}
 use borrow.Author.Tests.{lt-ltb, le-ltb}
 use Rattle.tasks.specs.Table.{last_policy, table_fault}
-use borrow.Author.Rules.{rules}
 use Rattle.tasks.proofs.table.Table.fault.Goals as goal
 
 -- the policy that the test reads is the table's

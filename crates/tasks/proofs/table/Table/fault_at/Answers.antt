@@ -1,7 +1,6 @@
 -- By cases on whether the entry is one of the first n. Assumes nothing.
 use Rattle.tasks.specs.Table.{fault_at}
 use borrow.Author.Tests.{lt-ltb, le-ltb}
-use borrow.Author.Rules.{rules}
 use Rattle.tasks.proofs.table.Table.fault_at.Goals as goal
 
 pub returns-then-i-n : goal.returns-then-i-n

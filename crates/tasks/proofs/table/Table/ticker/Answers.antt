@@ -6,7 +6,6 @@ use Rattle.jobs.specs.Place.{gap_mask, work_mask}
 use Rattle.tasks.specs.Tick.{released, ran}
 use Rattle.tasks.specs.Words.{words_of}
 use Rattle.tasks.specs.Ticker.{ticker_of, places_in}
-use borrow.Author.Rules.{rules}
 use Rattle.tasks.proofs.table.Table.ticker.Goals as goal
 
 pub returns : goal.returns

@@ -1,7 +1,6 @@
 use mathlib.Core.Path.{ap, ap₂, ◌∙◌}
 use Rattle.lists.specs.Lists.{eight}
 use Rattle.tasks.specs.Ticker.{selected, lowered, ticked_by}
-use borrow.Author.Rules.{rules}
 use Rattle.tasks.proofs.ticker.Ticker.after.Goals as goal
 
 pub returns : goal.returns

@@ -1,12 +1,10 @@
-use Prim.Native.Nat.{suc, ◌+◌, ◌-◌, ◌^◌, ◌≤◌}
+use Prim.Native.Nat.{suc, ◌+◌, ◌^◌}
 use mathlib.Core.Path.{◌≡◌, refl, ap}
 use lib.Pow.{pow_mono}
 use native.Mathlib.Nat.{pow-suc}
-use Rattle.lists.specs.Lists.{bits_of}
 use Rattle.lists.proofs.Turns.{bits_none, bits_turn, bits_less, bits_end, pick_most}
 use Rattle.tasks.specs.Ticker.{releasable_in, free_by}
 use native.Mathlib.Omega.{arith}
-use borrow.Author.Rules.{rules}
 use Rattle.tasks.proofs.ticker.Ticker.free.Goals as goal
 
 pub loop-i-init : goal.loop-i-init

@@ -1,10 +1,7 @@
-use Prim.Native.Nat.{◌≤◌, ◌-◌}
 use mathlib.Core.Path.{refl}
-use lib.ListN.{get_or}
-use Rattle.tasks.specs.Ticker.{place_in, places_in}
-use Rattle.lists.proofs.Fill.{Filled, filled_start, filled_store, filled_end}
+use Rattle.tasks.specs.Ticker.{places_in}
+use Rattle.lists.proofs.Fill.{filled_start, filled_store, filled_end}
 use native.Mathlib.Omega.{arith}
-use borrow.Author.Rules.{rules}
 use Rattle.tasks.proofs.ticker.Ticker.places.Goals as goal
 
 pub loop-i-init : goal.loop-i-init

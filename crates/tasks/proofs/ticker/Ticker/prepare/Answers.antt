@@ -1,5 +1,4 @@
 use Rattle.tasks.specs.Ticker.{prepared_by}
-use borrow.Author.Rules.{rules}
 use Rattle.tasks.proofs.ticker.Ticker.prepare.Goals as goal
 
 pub returns : goal.returns

@@ -1,9 +1,7 @@
-use Prim.Native.Nat.{◌≤◌, ◌-◌}
 use mathlib.Core.Path.{refl}
 use native.Mathlib.Omega.{arith}
 use Rattle.tasks.specs.Ticker.{selected}
-use Rattle.lists.proofs.Fill.{Filled, filled_start, filled_store, filled_end}
-use borrow.Author.Rules.{rules}
+use Rattle.lists.proofs.Fill.{filled_start, filled_store, filled_end}
 use Rattle.tasks.proofs.ticker.Ticker.selected.Goals as goal
 
 pub loop-i-init : goal.loop-i-init
