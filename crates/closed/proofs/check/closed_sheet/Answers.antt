@@ -13,7 +13,7 @@ use Rattle.closed.proofs.check.closed_sheet.Goals as goal
 pub closed_valid-requires : goal.closed_valid-requires
 closed_valid-requires c =
     let read = c.read_sheet-read in
-    let known = c.shared_slice_known-1.given in
+    let known = c.type_inv.sheet in
     read_valid c.args.sheet.now (λ i. omega (arith, known i)) read.result.table
     (sym (sheet_is read.ensures) ∙ read_accepted read.result c.in-Accepted.is)
 

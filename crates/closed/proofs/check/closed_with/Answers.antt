@@ -40,5 +40,5 @@ returns c =
     let found : c.scan.result ≡ true = c.if-not-scan.false in
     let h = rw found at c.scan.ensures in
     closed_is c.args.t c.args.file.now c.all_inside.result c.requires.0.valid (rw sound at c.all_sound.ensures)
-    (rw (← c.requires.0.is) (held c.args.file.now start c.shared_slice_known-1.given start_bytes (rw c.key_of-start.ensures at h)))
+    (rw (← c.requires.0.is) (held c.args.file.now start c.type_inv.file start_bytes (rw c.key_of-start.ensures at h)))
     c.all_inside.ensures

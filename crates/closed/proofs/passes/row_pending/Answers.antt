@@ -61,7 +61,7 @@ loop-m-preserved c =
     rw c.follow-m.ensures (
       omega (arith, more.0, c.loop-m.invariant.0, walked_falls _ free c.loop-m.invariant.2.walked small),
       more.1.grown.same ∙ c.loop-m.invariant.1,
-      row_next free c.loop-m.invariant.2 small c.is_due-due.ensures c.shared_slice_known-1.given more.1,
+      row_next free c.loop-m.invariant.2 small c.is_due-due.ensures c.type_inv.file more.1,
     )
 
 pub shape_of-pending : goal.shape_of-pending

@@ -37,7 +37,7 @@ returns-then-out-n c =
     let n = c.first_len-n.ensures in
     let short : length a.out.now < length (lines_of a.a a.trace.now) = omega (arith, c.if-out-n.true, n.0, lines_length a.a a.trace.now) in
     let w = lines_short a.a a.trace.now a.out.now short in
-    (w.0, w.1, lines_most a.a a.trace.now (omega (arith, n.0, n.1)) (λ i. omega (arith, c.shared_slice_known-1.given i)))
+    (w.0, w.1, lines_most a.a a.trace.now (omega (arith, n.0, n.1)) (λ i. omega (arith, c.type_inv.trace i)))
 
 pub overflow_sub-out : goal.overflow_sub-out
 overflow_sub-out c = omega (arith, c.if-out-n.false)
@@ -65,7 +65,7 @@ returns-then-masks_fit c =
     let long : c.put_masks.result ≡ length (lines_of a.a a.trace.now) = omega (arith, c.put_masks.ensures.0, q.place, ap length text) in (
       ap Written long ∙ (lines_fit a.a a.trace.now a.out.now room).0,
       storing_last (mask_lines masks) q c.put_masks.ensures.1 ∙ ap (sets a.out.now 0) text ∙ lines_stored a.a a.trace.now a.out.now room,
-      lines_most a.a a.trace.now (omega (arith, n.0, n.1)) (λ i. omega (arith, c.shared_slice_known-1.given i)),
+      lines_most a.a a.trace.now (omega (arith, n.0, n.1)) (λ i. omega (arith, c.type_inv.trace i)),
     )
 
 pub returns : goal.returns
@@ -77,4 +77,4 @@ returns c =
     let text = ap (λ m. length (mask_lines m)) (c.mask_count-k.ensures.1 a.trace.now refl) in
     let short : length a.out.now < length (lines_of a.a a.trace.now) = omega (arith, c.if-out-n.false, n.0, lines_length a.a a.trace.now) in
     let w = lines_short a.a a.trace.now a.out.now short in
-    (w.0, w.1, lines_most a.a a.trace.now (omega (arith, n.0, n.1)) (λ i. omega (arith, c.shared_slice_known-1.given i)))
+    (w.0, w.1, lines_most a.a a.trace.now (omega (arith, n.0, n.1)) (λ i. omega (arith, c.type_inv.trace i)))

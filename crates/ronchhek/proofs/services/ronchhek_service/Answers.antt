@@ -11,7 +11,7 @@ use Rattle.ronchhek.proofs.services.ronchhek_service.Goals as goal
 pub service_table-requires : goal.service_table-requires
 service_table-requires c =
     let read = c.read_sheet-read in
-    let known = c.shared_slice_known-1.given in
+    let known = c.type_inv.sheet in
     read_valid c.args.sheet.now (λ i. omega (arith, known i)) read.result.table
     (sym (sheet_is read.ensures) ∙ read_accepted read.result c.in-Accepted.is)
 

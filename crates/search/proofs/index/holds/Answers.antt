@@ -29,7 +29,7 @@ loop-cur-init c = rw c.bucket-b.ensures.0 (walk_start (keyed c.requires) c.key_o
 pub returns-then-same_keys : goal.returns-then-same_keys
 returns-then-same_keys c =
     let e = keys_same _ _ (sym c.same_keys.ensures ∙ c.if-same_keys.true) in
-    held _ (state_of c.args.v) c.shared_slice_known-1.given (let it : Bytes (state_of c.args.v) = word_bytes c.args.v (λ k b. search rules) in it)
+    held _ (state_of c.args.v) c.type_inv.work (let it : Bytes (state_of c.args.v) = word_bytes c.args.v (λ k b. search rules) in it)
     (record { place = c.loop-cur.cur - 1; below = omega (arith, c.loop-cur.invariant.low); same = sym c.key_in.ensures ∙ e ∙ c.key_of-key.ensures })
 
 pub link_of-cur-requires : goal.link_of-cur-requires

@@ -3,4 +3,4 @@ use native.Mathlib.Omega.{arith}
 use Rattle.slots.proofs.running.end_within.Goals as goal
 
 pub overflow_cast-end : goal.overflow_cast-end
-overflow_cast-end c = omega (arith, c.shared_slice_known-1.given c.args.b)
+overflow_cast-end c = omega (arith, c.type_inv.ends c.args.b)

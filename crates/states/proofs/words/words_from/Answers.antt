@@ -14,4 +14,4 @@ loop-k-preserved c =
 
 pub returns : goal.returns
 returns c =
-    ap state_of (filled_end c.loop-k.invariant.1 c.loop-k-test.false) ∙ loaded c.args.bytes.now c.args.at c.shared_slice_known-1.given
+    ap state_of (filled_end c.loop-k.invariant.1 c.loop-k-test.false) ∙ loaded c.args.bytes.now c.args.at c.type_inv.bytes

@@ -16,5 +16,5 @@ returns-in-Accepted c =
     let a = c.args in
     let read = c.read_sheet-sheet.ensures in
     let t-is = read.1 in
-    let w = copy_accepted a.s.now a.out.now (λ i. omega (arith, c.shared_slice_known-1.given i)) (sheet_reading read ∙ c.in-Accepted.is) in
+    let w = copy_accepted a.s.now a.out.now (λ i. omega (arith, c.type_inv.s i)) (sheet_reading read ∙ c.in-Accepted.is) in
     (c.write_sheet.ensures.0 ∙ ap (λ t. write_answer t a.out.now) t-is ∙ w.0, c.write_sheet.ensures.1 ∙ ap (λ t. write_out t a.out.now) t-is ∙ w.1)
