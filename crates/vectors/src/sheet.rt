@@ -1,23 +1,24 @@
 // Sheets that are read.
 use crate::{table, text};
+use std::io;
 use tasks::{Reading, Sheet};
 
 // Kind s, a sheet: the table that it is read as, or its refusal.
-pub fn sheet(body: &[u8]) {
+pub fn sheet(rt: &impl Print, body: &[u8]) -> io::Result<()> {
     let read = tasks::read_sheet(body);
-    text::put(b"sheet");
-    print(read);
+    text::put(rt, b"sheet")?;
+    print(rt, read)
 }
 
 // Ends a line with a table, or its refusal.
-pub fn print(read: Sheet) {
+pub fn print(rt: &impl Print, read: Sheet) -> io::Result<()> {
     let answer = read.answer;
     match answer {
         Reading::Accepted => {
-            text::put(b" accepted");
-            table::print(read.table);
+            text::put(rt, b" accepted")?;
+            table::print(rt, read.table)?;
         }
-        Reading::Refused(r) => text::refused(r),
+        Reading::Refused(r) => text::refused(rt, r)?,
     }
-    text::end();
+    text::end(rt)
 }

@@ -1,5 +1,6 @@
 // Task tables: the 27 bytes of one in a body, and the line of its fault.
 use crate::text;
+use std::io;
 use tasks::Table;
 
 // How many bytes a table has in a body: policy, m, n, and eight each of work, deadline and gap.
@@ -35,36 +36,37 @@ pub fn of_body(b: &[u8]) -> Table {
 }
 
 // Prints C, D and P of a task.
-fn print_task(work: u8, deadline: u8, gap: u8) {
-    text::small(work);
-    text::small(deadline);
-    text::small(gap);
+fn print_task(rt: &impl Print, work: u8, deadline: u8, gap: u8) -> io::Result<()> {
+    text::small(rt, work)?;
+    text::small(rt, deadline)?;
+    text::small(rt, gap)
 }
 
 // Prints the tasks of a table, all eight.
-fn print_tasks(t: Table) {
+fn print_tasks(rt: &impl Print, t: Table) -> io::Result<()> {
     let work = t.work;
     let deadline = t.deadline;
     let gap = t.gap;
     let mut i: usize = 0;
     while i < 8 {
-        print_task(work[i], deadline[i], gap[i]);
+        print_task(rt, work[i], deadline[i], gap[i])?;
         i += 1;
     }
+    Ok(())
 }
 
 // Prints policy, m, n, then C, D, P of each of the eight entries.
-pub fn print(t: Table) {
-    text::small(t.policy);
-    text::small(t.m);
-    text::small(t.n);
-    print_tasks(t);
+pub fn print(rt: &impl Print, t: Table) -> io::Result<()> {
+    text::small(rt, t.policy)?;
+    text::small(rt, t.m)?;
+    text::small(rt, t.n)?;
+    print_tasks(rt, t)
 }
 
 // Kind t, a table: its refusal, and 0 for a valid one.
-pub fn table(body: &[u8]) {
+pub fn table(rt: &impl Print, body: &[u8]) -> io::Result<()> {
     let t = of_body(body);
-    text::put(b"table");
-    text::small(t.fault());
-    text::end();
+    text::put(rt, b"table")?;
+    text::small(rt, t.fault())?;
+    text::end(rt)
 }

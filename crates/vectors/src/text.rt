@@ -1,7 +1,7 @@
 // What the lines are made of.
 ghost use Rattle.std.specs.Prelude.{◌≤◌};
 
-use libc::STDOUT_FILENO;
+use std::io;
 use tasks::wide;
 
 // 1 where something holds, and 0 where it does not.
@@ -12,70 +12,70 @@ pub fn one(holds: bool) -> usize
 }
 
 // Writes some text.
-pub fn put(text: &[u8]) {
-    io::write_all(STDOUT_FILENO, text);
+pub fn put(rt: &impl Print, text: &[u8]) -> io::Result<()> {
+    rt.write_all(text)
 }
 
 // Writes a space and a number.
-pub fn number(x: usize) {
-    long(x as u64);
+pub fn number(rt: &impl Print, x: usize) -> io::Result<()> {
+    long(rt, x as u64)
 }
 
 // Writes a space and a number of 64 bits.
-pub fn long(x: u64) {
-    put(b" ");
-    io::print_decimal(STDOUT_FILENO, x);
+pub fn long(rt: &impl Print, x: u64) -> io::Result<()> {
+    print!(rt; " {x}")
 }
 
 // Writes a space and a byte as a number.
-pub fn small(x: u8) {
-    number(wide(x));
+pub fn small(rt: &impl Print, x: u8) -> io::Result<()> {
+    number(rt, wide(x))
 }
 
 // Writes a refusal and its number.
-pub fn refused(r: u8) {
-    put(b" refused");
-    small(r);
+pub fn refused(rt: &impl Print, r: u8) -> io::Result<()> {
+    put(rt, b" refused")?;
+    small(rt, r)
 }
 
 // Ends the line.
-pub fn end() {
-    put(b"\n");
+pub fn end(rt: &impl Print) -> io::Result<()> {
+    put(rt, b"\n")
 }
 
 // Writes each byte as two hexadecimal digits.
-fn hex(bytes: &[u8]) {
+fn hex(rt: &impl Print, bytes: &[u8]) -> io::Result<()> {
     let mut i: usize = 0;
     while i < bytes.len() {
-        digits(bytes[i]);
+        digits(rt, bytes[i])?;
         i += 1;
     }
+    Ok(())
 }
 
 // Writes a byte as two hexadecimal digits.
-pub fn digits(x: u8) {
-    io::print_hex(STDOUT_FILENO, x as u64, 2);
+pub fn digits(rt: &impl Print, x: u8) -> io::Result<()> {
+    print!(rt; "{x:02x}")
 }
 
 // Writes a space and what an output holds, in hexadecimal.
-pub fn output(bytes: &[u8]) {
-    put(b" ");
+pub fn output(rt: &impl Print, bytes: &[u8]) -> io::Result<()> {
+    put(rt, b" ")?;
     if bytes.len() == 0 {
-        put(b"empty");
+        put(rt, b"empty")?;
     }
-    hex(bytes);
+    hex(rt, bytes)
 }
 
 // Writes a title, as a line that starts with #.
-pub fn title(text: &[u8]) {
-    put(b"# ");
-    put(text);
-    end();
+pub fn title(rt: &impl Print, text: &[u8]) -> io::Result<()> {
+    put(rt, b"# ")?;
+    put(rt, text)?;
+    end(rt)
 }
 
 // Writes the line of a record whose kind nobody knows.
-pub fn unknown() {
-    put(b"unknown kind\n");
+pub fn unknown(rt: &impl Print) -> io::Result<()> {
+    put(rt, b"unknown kind\n")
 }
 
 // The byte at a place of a body, and 0 after its end.

@@ -1,13 +1,31 @@
 // Reads a sheet from standard input and prints the lines of its verdict: one read, one call, one write.
 #![tactic(auto)]
 
-use libc::{STDIN_FILENO, STDOUT_FILENO};
+ghost use Rattle.std.specs.Prelude.{◌≤◌, length, IfOk};
 
-// The first 64 bytes of the input decide every answer (`judged-front` in crates/lines/proofs/Front.antt).
-fn main() {
+use std::io;
+use std::io::Read;
+
+// Reads until the bytes lent are full or the input ends, and answers how many were read.
+fn read_full(input: &mut impl Read, bytes: &mut [u8]) -> io::Result<usize>
+    ensures { IfOk result (λ got. got ≤ length bytes.new) }
+{
+    let mut got: usize = 0;
+    while got < bytes.len() {
+        let more = input.read(&mut bytes[got..])?;
+        if more == 0 {
+            break;
+        }
+        got += more;
+    }
+    Ok(got)
+}
+
+// The first 64 bytes of the input decide every answer (`judged_front` in crates/lines/proofs/Front.antt).
+fn main(rt: HostRuntime) -> io::Result<()> {
     let mut sheet = [0u8; 64];
-    let got = io::read_full(STDIN_FILENO, &mut sheet);
+    let got = read_full(&mut rt.stdin(), &mut sheet)?;
     let mut out = [0u8; 32896];
     let n = lines::judge(&sheet[..got], &mut out);
-    io::write_all(STDOUT_FILENO, &out[..n]);
+    rt.write_all(&out[..n])
 }
