@@ -38,8 +38,8 @@ def library(given):
     if not shutil.which("rt"):
         say("No `rt` on the path: there is no library to measure.")
         return None
-    say("rt staticlib ronchhek")
-    call(["rt", "staticlib", "ronchhek"], cwd=ROOT)
+    say("tools/build ronchhek")
+    call([ROOT / "tools" / "build", "ronchhek"])
     return ROOT / "target" / "staticlib" / "libronchhek.a"
 
 

@@ -2,7 +2,7 @@
  * sheets read and written, practice sheets drawn from a number, sheets cut to their first tasks, and sessions that step through a
  * replay and return to a point.
  *
- * Link with libronchhek.a (`rt staticlib ronchhek` writes it to target/staticlib/). The calls take any bytes and any lengths
+ * Link with libronchhek.a (`tools/build ronchhek` writes it to target/staticlib/). The calls take any bytes and any lengths
  * and always return. They read and write nothing but the bytes they are lent, take nothing from the heap, make no system
  * call and keep nothing between calls, so several threads may call at once, each with spaces of its own.
  *

@@ -1,7 +1,7 @@
 # Sourced by run-outside and run-nightly in the root folder: builds target/staticlib/libronchhek.a, or takes the archive that LIB
 # names, and sets `out`, the folder for the programs.
 if [ -z "${LIB:-}" ]; then
-    rt staticlib ronchhek
+    tools/build ronchhek
     LIB=target/staticlib/libronchhek.a
 fi
 out=target/outside

@@ -50,6 +50,7 @@ fn finish(work: &mut [u8], trace: &mut [u8], ends: &[u32], k: usize, end: End) -
 }
 
 // Up to 16,384 slots: 16 KB of heads on the stack.
+#[inline(never)]
 fn search_small(t: Table, work: &mut [u8], trace: &mut [u8], k: usize) -> SearchAnswer
     requires { Lent t work.old trace.old k }
     ensures { Found (columns k) k t work.old work.new trace.old trace.new (figures result) }
@@ -61,6 +62,7 @@ fn search_small(t: Table, work: &mut [u8], trace: &mut [u8], k: usize) -> Search
 }
 
 // Up to 262,144 slots: 256 KB of heads.
+#[inline(never)]
 fn search_medium(t: Table, work: &mut [u8], trace: &mut [u8], k: usize) -> SearchAnswer
     requires { Lent t work.old trace.old k }
     ensures { Found (columns k) k t work.old work.new trace.old trace.new (figures result) }
@@ -72,6 +74,7 @@ fn search_medium(t: Table, work: &mut [u8], trace: &mut [u8], k: usize) -> Searc
 }
 
 // Up to 1,000,000 slots: 1 MB of heads.
+#[inline(never)]
 fn search_large(t: Table, work: &mut [u8], trace: &mut [u8], k: usize) -> SearchAnswer
     requires { Lent t work.old trace.old k }
     ensures { Found (columns k) k t work.old work.new trace.old trace.new (figures result) }
@@ -82,8 +85,8 @@ fn search_large(t: Table, work: &mut [u8], trace: &mut [u8], k: usize) -> Search
     finish(work, trace, &ends, k, end)
 }
 
-// The search with the heads for a work space of k slots, chosen step by step from the fewest on. It calls itself: the compiler
-// then keeps each size's heads in a frame of their own, so that a small work space does not pay a large one's stack.
+// The search with the heads for a work space of k slots, chosen step by step from the fewest on. Each size's function is kept out of line, so that its heads
+// stand in a frame of their own and a small work space does not pay a large one's stack.
 fn search_sized(t: Table, work: &mut [u8], trace: &mut [u8], k: usize, step: usize) -> SearchAnswer
     requires { Lent t work.old trace.old k }
     ensures { Found (columns k) k t work.old work.new trace.old trace.new (figures result) }
