@@ -85,8 +85,8 @@ fn search_large(t: Table, work: &mut [u8], trace: &mut [u8], k: usize) -> Search
     finish(work, trace, &ends, k, end)
 }
 
-// The search with the heads for a work space of k slots, chosen step by step from the fewest on. Each size's function is kept out of line, so that its heads
-// stand in a frame of their own and a small work space does not pay a large one's stack.
+// The search with the heads for a work space of k slots, chosen step by step from the fewest on. Each size's function is kept out of line,
+// so that its heads stand in a frame of their own and a small work space does not pay a large one's stack.
 fn search_sized(t: Table, work: &mut [u8], trace: &mut [u8], k: usize, step: usize) -> SearchAnswer
     requires { Lent t work.old trace.old k }
     ensures { Found (columns k) k t work.old work.new trace.old trace.new (figures result) }
