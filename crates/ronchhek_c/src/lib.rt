@@ -1,5 +1,5 @@
-// The calls of include/ronchhek.h, under their C names: each calls the function of `ronchhek` of its name, and promises what that one promises. `tools/build ronchhek`
-// makes target/staticlib/libronchhek.a of this crate.
+// The calls of include/ronchhek.h, under their C names: each calls the function of `ronchhek` of its name, and promises what that one
+// promises. `tools/build ronchhek` makes target/staticlib/libronchhek.a of this crate.
 #![tactic(auto)]
 
 mod cuts;

@@ -1,4 +1,5 @@
--- `verdict::read_full` is safe and ends. The loop's invariant: at most as many bytes were read as the space has, and it keeps its length. The measure is what is left of the space. Assumes nothing.
+-- `verdict::read_full` is safe and ends. The loop's invariant: at most as many bytes were read as the space has, and it keeps its length.
+-- The measure is what is left of the space. Assumes nothing.
 use Rattle.std.proofs.Common.{◌≡◌, ◌-◌, ◌≤◌, length}
 use Rattle.verdict.proofs.read_full.Given as goal
 
