@@ -4,4 +4,5 @@ pub mod Picks
 pub mod Turns
 pub mod Digits
 pub mod Fill
+pub mod Made
 pub mod Counts

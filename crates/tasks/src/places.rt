@@ -7,6 +7,7 @@ ghost use Rattle.tasks.specs.Places.{place, earlier_in};
 use crate::state::State;
 use crate::table::Table;
 use crate::widths::wide16;
+use std::array;
 
 // For each task, how many of the first j go before it, with task j counted too.
 fn count_job(counts: [u16; 8], keys: [i16; 8], ages: [i16; 8], j: usize) -> [u16; 8]
@@ -56,13 +57,7 @@ impl State {
     fn keys(self, t: Table) -> [i16; 8]
         ensures { result ≡ eight (key t self) }
     {
-        let mut keys = [0i16; 8];
-        let mut i: usize = 0;
-        while i < 8 {
-            keys[i] = self.key(t, i);
-            i += 1;
-        }
-        keys
+        array::from_fn(|i| self.key(t, i))
     }
 
     fn ages(self, t: Table) -> [i16; 8]

@@ -83,13 +83,7 @@ impl State {
     pub fn missed(self, t: Table) -> bool
         ensures { result ≡ missed t self }
     {
-        let mut found = false;
-        let mut i: usize = 0;
-        while i < 8 {
-            found = found | self.late(t, i);
-            i += 1;
-        }
-        found
+        lists::any_place(|i| self.late(t, i))
     }
 
     // Whether the job of task i is started.

@@ -7,6 +7,7 @@ ghost use Rattle.tasks.specs.Ticker.{ready_in, keeps_in, place_in, places_in, ke
 use crate::state::State;
 use crate::table::Table;
 use crate::widths::{either16, wide16};
+use std::array;
 
 // A table made ready for many ticks. For each task: its bit in a mask; the work below which its job keeps its processor; its place but
 // for what its two numbers add to it; 255 where the policy goes by the ticks until the release, and 255 where it goes by the work left; its
@@ -69,13 +70,7 @@ fn old_word(w: u16) -> u16
 fn old_words(v: [u16; 8]) -> [u16; 8]
     ensures { result ≡ eight (λ i. old_word (get_or v i 0)) }
 {
-    let mut out = [0u16; 8];
-    let mut i: usize = 0;
-    while i < 8 {
-        out[i] = old_word(v[i]);
-        i += 1;
-    }
-    out
+    array::from_fn(|i| old_word(v[i]))
 }
 
 // The words with those of the tasks that run lowered.
@@ -83,13 +78,7 @@ fn lowered(places: [u16; 8], words: [u16; 8], m: u16) -> [u16; 8]
     ensures { result ≡ lowered places words m }
 {
     let run = cores::assign_quickly(places, m);
-    let mut out = [0u16; 8];
-    let mut i: usize = 0;
-    while i < 8 {
-        out[i] = less(words[i], run[i]);
-        i += 1;
-    }
-    out
+    array::from_fn(|i| less(words[i], run[i]))
 }
 
 impl Ticker {
@@ -97,19 +86,13 @@ impl Ticker {
     fn places(self, v: [u16; 8]) -> [u16; 8]
         ensures { result ≡ places_in self.bygap self.bywork self.kept self.base v }
     {
-        let mut out = [0u16; 8];
-        let mut i: usize = 0;
-        while i < 8 {
-            out[i] = place_in(
-                self.bygap[i],
-                self.bywork[i],
-                self.kept[i],
-                self.base[i],
-                v[i],
-            );
-            i += 1;
-        }
-        out
+        array::from_fn(|i| place_in(
+            self.bygap[i],
+            self.bywork[i],
+            self.kept[i],
+            self.base[i],
+            v[i],
+        ))
     }
 
     // A state made ready.
@@ -125,13 +108,7 @@ impl Ticker {
     fn selected(self, mask: u16, old: [u16; 8], new: [u16; 8]) -> [u16; 8]
         ensures { result ≡ eight (selected self.bits mask old new) }
     {
-        let mut out = [0u16; 8];
-        let mut i: usize = 0;
-        while i < 8 {
-            out[i] = either16(mask & self.bits[i] == 0, old[i], new[i]);
-            i += 1;
-        }
-        out
+        array::from_fn(|i| either16(mask & self.bits[i] == 0, old[i], new[i]))
     }
 
     // The words after a tick of a state made ready: release, choose, run.

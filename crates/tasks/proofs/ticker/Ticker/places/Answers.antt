@@ -1,15 +1,10 @@
-use mathlib.Core.Path.{refl}
-use Rattle.tasks.specs.Ticker.{places_in}
-use Rattle.lists.proofs.Fill.{filled_start, filled_store, filled_end}
-use native.Mathlib.Omega.{arith}
+use Rattle.std.proofs.Common.{rules, get_or}
+use Rattle.lists.proofs.Made.{made}
+use Rattle.tasks.specs.Ticker.{place_in, places_in}
 use Rattle.tasks.proofs.ticker.Ticker.places.Goals as goal
-
-pub loop-i-init : goal.loop-i-init
-loop-i-init c = (omega arith, filled_start refl)
-
-pub loop-i-preserved : goal.loop-i-preserved
-loop-i-preserved c = (omega arith, filled_store c.loop-i.invariant.1 (omega arith) c.place_in.ensures)
 
 pub returns : goal.returns
 unfolding places_in
-returns c = filled_end c.loop-i.invariant.1 c.loop-i-test.false
+returns c =
+    let s = c.args.self in
+    made _ (λ i. place_in (get_or s.bygap i 0) (get_or s.bywork i 0) (get_or s.kept i 0) (get_or s.base i 0) (get_or c.args.v i 0)) (λ i y q l k. search rules) c.from_fn.ensures.items

@@ -1,15 +1,10 @@
-use mathlib.Core.Path.{refl}
-use native.Mathlib.Omega.{arith}
+use Rattle.std.proofs.Common.{rules}
+use Rattle.lists.proofs.Made.{made}
 use Rattle.tasks.specs.Ticker.{selected}
-use Rattle.lists.proofs.Fill.{filled_start, filled_store, filled_end}
 use Rattle.tasks.proofs.ticker.Ticker.selected.Goals as goal
 
-pub loop-i-init : goal.loop-i-init
-loop-i-init c = (omega arith, filled_start refl)
-
-pub loop-i-preserved : goal.loop-i-preserved
-unfolding selected
-loop-i-preserved c = (omega arith, filled_store c.loop-i.invariant.1 (omega arith) c.either16.ensures)
-
 pub returns : goal.returns
-returns c = filled_end c.loop-i.invariant.1 c.loop-i-test.false
+unfolding selected
+returns c =
+    let a = c.args in
+    made _ (selected a.self.bits a.mask a.old a.new) (λ i y q l k. search rules) c.from_fn.ensures.items
