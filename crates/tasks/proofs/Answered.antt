@@ -7,15 +7,18 @@ use native.Mathlib.Omega.{arith}
 use lib.Dec.{ltb}
 use borrow.Author.Tests.{ltb-true, ltb-false, lt-ltb, le-ltb}
 use Rattle.lists.specs.Lists.{pick}
+use Rattle.std.specs.Prelude.{Ok, Err}
 use Rattle.tasks.specs.Table.{table_fault}
 use Rattle.tasks.specs.State.{improper}
 use Rattle.tasks.specs.Tick.{illegal, released, chosen, ran, after, missed, refusal, answered, ticked}
 use Rattle.tasks.specs.declared.state.State.{State}
 use Rattle.tasks.specs.declared.table.Table.{Table}
-use Rattle.tasks.specs.declared.tick.TickAnswer.TheVariants.{Next, Missed, Refused}
+use Rattle.tasks.specs.declared.tick.Step.TheVariants.{Next, Missed}
+use Rattle.tasks.specs.declared.refusal.Refusal.TheVariants.{Mask}
+use Rattle.tasks.specs.Refusals.{refusal_number, refusal_at}
 use Rattle.lists.proofs.Bools.{by_bool}
 use Rattle.lists.proofs.Picks.{pick_yes, pick_no}
-use Rattle.tasks.proofs.Tables.{pick_zero}
+use Rattle.tasks.proofs.Tables.{pick_zero, pick_case, Named, fault_number}
 use Rattle.tasks.proofs.Proper.{proper_after}
 
 -- a tick that neither refuses nor misses: what it is given, and what it leaves
@@ -26,19 +29,35 @@ pub record Passed (t : Table) (s : State) (mask : ℕ) : Type 0 where
   pub calm : missed t (after t s mask) ≡ false
   pub state : (ticked t s mask).state ≡ after t s mask
 
+thirteen : 13 ≡ refusal_number (refusal_at 13)
+unfolding refusal_at
+thirteen = refl
+
+eleven : 11 ≡ refusal_number (refusal_at 11)
+unfolding refusal_at
+eleven = refl
+
 module _ (t : Table) (s : State) (mask : ℕ) where
+  -- a tick's refusal is one of the list
+  pub refusal_listed : 0 < refusal t s mask → refusal t s mask ≡ refusal_number (refusal_at (refusal t s mask))
+  unfolding refusal
+  refusal_listed =
+      pick_case Named (ltb 0 (table_fault t)) (fault_number t)
+      (pick_case Named (improper t s) {x = 13} (λ h. thirteen)
+      (pick_case Named (illegal t s mask) {x = 11} {y = 0} (λ h. eleven) (λ h. absurd (omega arith))))
+
   -- a tick is refused with the state given
-  pub ticked_refused : 0 < refusal t s mask → answered (Refused (refusal t s mask)) s ≡ ticked t s mask
+  pub ticked_refused : 0 < refusal t s mask → answered (Err (refusal_at (refusal t s mask))) s ≡ ticked t s mask
   unfolding ticked
   ticked_refused h = pick_yes _ (lt-ltb _ _ h)
 
   pub ticked_missed :
-      refusal t s mask ≤ 0 → missed t (after t s mask) ≡ true → answered Missed (after t s mask) ≡ ticked t s mask
+      refusal t s mask ≤ 0 → missed t (after t s mask) ≡ true → answered (Ok Missed) (after t s mask) ≡ ticked t s mask
   unfolding ticked
   ticked_missed h e = pick_no _ (le-ltb _ _ h) (pick_yes _ e)
 
   pub ticked_next :
-      refusal t s mask ≤ 0 → missed t (after t s mask) ≡ false → answered Next (after t s mask) ≡ ticked t s mask
+      refusal t s mask ≤ 0 → missed t (after t s mask) ≡ false → answered (Ok Next) (after t s mask) ≡ ticked t s mask
   unfolding ticked
   ticked_next h e = pick_no _ (le-ltb _ _ h) (pick_no _ e refl)
 
@@ -48,9 +67,17 @@ module _ (t : Table) (s : State) (mask : ℕ) where
   refusal_none valid proper legal = rw (valid, proper, legal)
 
   -- a bad table refuses every tick
-  pub refusal_fault : 0 < table_fault t → 0 < refusal t s mask
+  pub refusal_table : 0 < table_fault t → refusal t s mask ≡ table_fault t
   unfolding refusal
-  refusal_fault bad = rw (lt-ltb 0 (table_fault t) bad) bad
+  refusal_table bad = rw (lt-ltb 0 (table_fault t) bad)
+
+  pub refusal_fault : 0 < table_fault t → 0 < refusal t s mask
+  refusal_fault bad = omega (arith, refusal_table bad)
+
+  -- so does a state that is not proper
+  pub refusal_state : table_fault t ≡ 0 → improper t s ≡ true → refusal t s mask ≡ 13
+  unfolding refusal
+  refusal_state valid bad = rw (valid, bad)
 
   pub refusal_passed : refusal t s mask ≤ 0 → (table_fault t ≡ 0) × (improper t s ≡ false) × (illegal t s mask ≡ false)
   unfolding refusal
@@ -67,7 +94,7 @@ module _ (t : Table) (s : State) (mask : ℕ) where
   -- LAW: with a valid table, a proper state and a legal mask, a tick is the state after step 4, missed or not
   pub ticked_legal :
       table_fault t ≡ 0 → improper t s ≡ false → illegal t s mask ≡ false
-      → ticked t s mask ≡ answered (pick (missed t (after t s mask)) Missed Next) (after t s mask)
+      → ticked t s mask ≡ answered (Ok (pick (missed t (after t s mask)) Missed Next)) (after t s mask)
   ticked_legal valid proper legal =
       let none : refusal t s mask ≤ 0 = omega (arith, refusal_none valid proper legal) in
       by_bool (missed t (after t s mask))
@@ -81,22 +108,23 @@ module _ (t : Table) (s : State) (mask : ℕ) where
 
     -- LAW: .. and so, by its steps
     pub ticked_steps :
-        table_fault t ≡ 0 → improper t s ≡ false → illegal t s mask ≡ false → ticked t s mask ≡ answered (pick (missed t next) Missed Next) next
+        table_fault t ≡ 0 → improper t s ≡ false → illegal t s mask ≡ false → ticked t s mask ≡ answered (Ok (pick (missed t next) Missed Next)) next
     ticked_steps valid proper legal = rw steps_after (ticked_legal valid proper legal)
 
-  refused_mask : table_fault t ≡ 0 → improper t s ≡ false → illegal t s mask ≡ true → refusal t s mask ≡ 11
+  pub refused_mask : table_fault t ≡ 0 → improper t s ≡ false → illegal t s mask ≡ true → refusal t s mask ≡ 11
   unfolding refusal
   refused_mask valid proper bad = rw (valid, proper, bad)
 
   -- LAW: with a valid table and a proper state, a mask that is not legal is refused with 11 and the state given
   pub ticked_illegal :
-      table_fault t ≡ 0 → improper t s ≡ false → illegal t s mask ≡ true → ticked t s mask ≡ answered (Refused 11) s
+      table_fault t ≡ 0 → improper t s ≡ false → illegal t s mask ≡ true → ticked t s mask ≡ answered (Err Mask) s
+  unfolding refusal_at
   ticked_illegal valid proper bad =
-      let eleven : refusal t s mask ≡ 11 = refused_mask valid proper bad in
-      sym (ticked_refused (omega arith)) ∙ ap (λ r. answered (Refused r) s) eleven
+      let e : refusal t s mask ≡ 11 = refused_mask valid proper bad in
+      sym (ticked_refused (omega arith)) ∙ ap (λ r. answered (Err (refusal_at r)) s) e
 
   -- a tick that neither refuses nor misses was given a valid table, a proper state and a legal mask, and leaves the state after step 4
-  pub next_passed : (ticked t s mask).answer ≡ Next → Passed t s mask
+  pub next_passed : (ticked t s mask).answer ≡ Ok Next → Passed t s mask
   next_passed e =
       by_bool (ltb 0 (refusal t s mask))
       (λ h.
@@ -110,5 +138,5 @@ module _ (t : Table) (s : State) (mask : ℕ) where
       (λ m. record { valid = ok.0; proper = ok.1; legal = ok.2; calm = m; state = ap (λ x. x.state) (sym (ticked_next none m)) }))
 
   -- LAW: a tick that neither refuses nor misses leaves a proper state
-  pub ticked_proper : (ticked t s mask).answer ≡ Next → improper t (ticked t s mask).state ≡ false
+  pub ticked_proper : (ticked t s mask).answer ≡ Ok Next → improper t (ticked t s mask).state ≡ false
   ticked_proper e = let f = next_passed e in rw f.state (proper_after t s mask f.proper f.legal f.calm)

@@ -7,28 +7,27 @@ use lib.Dec.{ltb}
 use lib.ListN.{length, get_or, take}
 use lib.Seq.{get_or-take, length-take-le, take_all}
 use borrow.Author.Tests.{lt-ltb, ltb-true, ltb-false}
-use Rattle.tasks.specs.Number.{above, number_in, number_at}
+use Rattle.std.specs.Prelude.{Result, Ok, Err}
+use Rattle.tasks.specs.declared.refusal.Refusal.{Refusal}
+use Rattle.tasks.specs.Number.{Read, above, number_in, number_at}
 use Rattle.tasks.specs.Table.{last_policy}
-use Rattle.tasks.specs.Sheet.{empty_table, accepted_as, field_at, and_then, task_of, task_then, task_at, with_task, after_task, tasks_from, from_tasks, from_policy, sheet_of}
-use Rattle.tasks.specs.declared.number.Number.{Number}
-use Rattle.tasks.specs.declared.number.Number.TheVariants.{Value, Refused}
+use Rattle.tasks.specs.Sheet.{empty_table, field_at, and_then, task_of, task_at, with_task, tasks_from, from_tasks, from_policy, sheet_of}
 use Rattle.tasks.specs.declared.table.Table.{Table}
-use Rattle.tasks.specs.declared.sheet.Sheet.{Sheet}
 use Rattle.tasks.specs.declared.sheet.Task.{Task}
-use Rattle.tasks.specs.declared.sheet.TaskRead.{TaskRead}
+use Rattle.tasks.specs.declared.refusal.Refusal.TheVariants.{FieldCount, Policy, Processors, TaskCount}
 use Rattle.lists.proofs.Bools.{by_bool}
-use Rattle.tasks.proofs.Groups.{no_value}
+use Rattle.tasks.proofs.Groups.{no_value, read_same}
 use Rattle.tasks.proofs.Fields.{field_read}
 use Rattle.tasks.proofs.Sheets.{sheet_short}
-use Rattle.tasks.proofs.RoundTrip.{task_of_lem, task_passed, read_write, read_valid}
+use Rattle.tasks.proofs.RoundTrip.{task_of_lem, passed, read_write, read_valid}
 
 -- ---- the place after what is read
 
-above_near : (g : ℕ) (x : Number) (v next n : ℕ) → ((w : ℕ) → x ≡ Value w next → next ≤ n) → above g x ≡ Value v next → next ≤ n
-above_near g (Value w m) v next n h e = let q : m ≡ next = cc in h w (ap (Value w) q)
-above_near g (Refused r) v next n h e = no_value e
+above_near : (g : ℕ) (x : Read ℕ) (v next n : ℕ) → ((w : ℕ) → x ≡ Ok (w, next) → next ≤ n) → above g x ≡ Ok (v, next) → next ≤ n
+above_near g (Ok (w, m)) v next n h e = let q : m ≡ next = (read_same e).1 in h w (ap (λ n. Ok (w, n)) q)
+above_near g (Err r) v next n h e = no_value e
 
-number_in_near : (k least : ℕ) (s : List ℕ) (at v next : ℕ) → number_in k least s at ≡ Value v next → next ≤ at + k
+number_in_near : (k least : ℕ) (s : List ℕ) (at v next : ℕ) → number_in k least s at ≡ Ok (v, next) → next ≤ at + k
 unfolding number_in
 number_in_near zero least s at v next e = no_value e
 number_in_near (suc k) least s at v next e =
@@ -38,45 +37,34 @@ number_in_near (suc k) least s at v next e =
     (λ a.
     by_bool (ltb (get_or s at 0) 128)
     (λ b.
-    let f : Value (get_or s at 0) (at + 1) ≡ Value v next = rw (h, a, b) at e in
-    let n : at + 1 ≡ next = cc in
+    let f : ◌≡◌ {A = Read ℕ} (Ok (get_or s at 0, at + 1)) (Ok (v, next)) = rw (h, a, b) at e in
+    let n : at + 1 ≡ next = (read_same f).1 in
     omega arith)
     (λ b.
     above_near _ (number_in k 1 s (at + 1)) v next (at + suc k) (λ w f. omega (arith, number_in_near k 1 s (at + 1) w next f)) (rw (h, a, b) at e))))
     (λ h. no_value (rw h at e))
 
 -- a number ends within two bytes
-number_near : (s : List ℕ) (at v next : ℕ) → number_at s at ≡ Value v next → next ≤ at + 2
+number_near : (s : List ℕ) (at v next : ℕ) → number_at s at ≡ Ok (v, next) → next ≤ at + 2
 unfolding number_at
 number_near s at v next e = number_in_near 2 0 s at v next e
 
 -- a task within six
-task_near : (s : List ℕ) (at : ℕ) (task : Task) (next : ℕ) → task_at s at ≡ TaskRead.Read task next → next ≤ at + 6
+task_near : (s : List ℕ) (at : ℕ) (task : Task) (next : ℕ) → task_at s at ≡ Ok (task, next) → next ≤ at + 6
 unfolding task_at
 task_near s at task next e =
-    let a = task_passed (number_at s at) (λ work a. task_then (number_at s a) (λ deadline b. task_then (number_at s b) (λ gap next. task_of work deadline gap next))) task next e in
-    let b = task_passed (number_at s a.at) (λ deadline b. task_then (number_at s b) (λ gap next. task_of a.v deadline gap next)) task next a.then in
-    let c = task_passed (number_at s b.at) (λ gap next. task_of a.v b.v gap next) task next b.then in
-    let d = task_of_lem a.v b.v c.v c.at c.then in
+    let a = passed (number_at s at) (λ work a. and_then (number_at s a) (λ deadline b. and_then (number_at s b) (λ gap next. task_of work deadline gap next))) (task, next) e in
+    let b = passed (number_at s a.next) (λ deadline b. and_then (number_at s b) (λ gap next. task_of a.v deadline gap next)) (task, next) a.then in
+    let c = passed (number_at s b.next) (λ gap next. task_of a.v b.v gap next) (task, next) b.then in
+    let d = task_of_lem a.v b.v c.v c.next c.then in
     omega
-    (arith, number_near s at a.v a.at a.is, number_near s a.at b.v b.at b.is, number_near s b.at c.v c.at c.is, d.4)
+    (arith, number_near s at a.v a.next a.is, number_near s a.next b.v b.next b.is, number_near s b.next c.v c.next c.is, d.4)
 
 -- ---- what follows a reading
 
-then_same : (x : Number) (f g : ℕ → ℕ → Sheet) → ((v next : ℕ) → x ≡ Value v next → f v next ≡ g v next) → and_then x f ≡ and_then x g
-then_same (Value v next) f g h = h v next refl
-then_same (Refused r) f g h = refl
-
-task_then_same :
-    (x : Number) (f g : ℕ → ℕ → TaskRead) → ((v next : ℕ) → x ≡ Value v next → f v next ≡ g v next) → task_then x f ≡ task_then x g
-task_then_same (Value v next) f g h = h v next refl
-task_then_same (Refused r) f g h = refl
-
-after_same :
-    (x : TaskRead) (f g : Task → ℕ → Sheet) → ((task : Task) (next : ℕ) → x ≡ TaskRead.Read task next → f task next ≡ g task next)
-    → after_task x f ≡ after_task x g
-after_same (TaskRead.Read task next) f g h = h task next refl
-after_same (TaskRead.Refused r) f g h = refl
+then_same : {A B : Type 0} (x : Read A) (f g : A → ℕ → Result B Refusal) → ((v : A) (next : ℕ) → x ≡ Ok (v, next) → f v next ≡ g v next) → and_then x f ≡ and_then x g
+then_same (Ok (v, next)) f g h = h v next refl
+then_same (Err r) f g h = refl
 
 -- ---- the first n bytes of a list
 
@@ -101,13 +89,13 @@ module _ (n : ℕ) (s : List ℕ) where
   unfolding number_at
   number_front at h = number_in_front 2 0 at h
 
-  field_same : (at low high r : ℕ) → at + 2 ≤ n → field_at (take n s) at low high r ≡ field_at s at low high r
+  field_same : (at low high : ℕ) (r : Refusal) → at + 2 ≤ n → field_at (take n s) at low high r ≡ field_at s at low high r
   unfolding field_at
   field_same at low high r h = rw (number_front at h)
 
   -- a field, and what follows it
   field_front :
-      (at low high r : ℕ) (f g : ℕ → ℕ → Sheet) → at + 2 ≤ n → ((v next : ℕ) → v ≤ high → next ≤ at + 2 → f v next ≡ g v next)
+      (at low high : ℕ) (r : Refusal) (f g : ℕ → ℕ → Result Table Refusal) → at + 2 ≤ n → ((v next : ℕ) → v ≤ high → next ≤ at + 2 → f v next ≡ g v next)
       → and_then (field_at (take n s) at low high r) f ≡ and_then (field_at s at low high r) g
   field_front at low high r f g h same =
       ap (λ x. and_then x f) (field_same at low high r h)
@@ -118,11 +106,11 @@ module _ (n : ℕ) (s : List ℕ) where
   unfolding task_at
   task_front at h =
       rw (number_front at (omega arith))
-      (task_then_same (number_at s at) _ _
+      (then_same (number_at s at) _ _
       (λ work a e.
       let x = number_near s at work a e in
       rw (number_front a (omega arith))
-      (task_then_same (number_at s a) _ _
+      (then_same (number_at s a) _ _
       (λ deadline b f.
       let y = number_near s a deadline b f in
       rw (number_front b (omega arith))))))
@@ -132,29 +120,29 @@ module _ (n : ℕ) (s : List ℕ) where
   tasks_front zero i t at h = rw (in_front at (omega arith))
   tasks_front (suc k) i t at h =
       rw (task_front at (omega arith))
-      (after_same (task_at s at) _ _
+      (then_same (task_at s at) _ _
       (λ task next e. tasks_front k (i + 1) (with_task t i task) next (omega (arith, task_near s at task next e))))
 
   -- policy, m, n and eight tasks take at most 54 bytes
   policy_front : (at : ℕ) → at + 54 < n → from_policy (take n s) at ≡ from_policy s at
   unfolding from_policy from_tasks
   policy_front at h =
-      field_front at 0 last_policy 4 _ _ (omega arith)
+      field_front at 0 last_policy Policy _ _ (omega arith)
       (λ policy a x y.
-      field_front a 1 8 5 _ _ (omega arith)
+      field_front a 1 8 Processors _ _ (omega arith)
       (λ m b z w.
-      field_front b 1 8 6 _ _ (omega arith)
+      field_front b 1 8 TaskCount _ _ (omega arith)
       (λ count c u v. tasks_front count 0 (empty_table policy m count) c (omega arith))))
 
   -- LAW: what a sheet answers stands in its first 57 bytes
   pub front : 56 < n → sheet_of (take n s) ≡ sheet_of s
   unfolding sheet_of
-  front h = field_front 0 3 3 3 _ _ (omega arith) (λ fields a x y. policy_front a (omega arith))
+  front h = field_front 0 3 3 FieldCount _ _ (omega arith) (λ fields a x y. policy_front a (omega arith))
 
 -- LAW: bytes after the 64th never change what a sheet answers
 pub sheet_front : (s : List ℕ) → sheet_of (take 64 s) ≡ sheet_of s
 sheet_front s = front 64 s (omega arith)
 
 -- LAW: an accepted sheet has at most 52 bytes
-pub accepted_short : (s : List ℕ) → ((i : ℕ) → get_or s i 0 < 256) → (t : Table) → sheet_of s ≡ accepted_as t → length s ≤ 52
+pub accepted_short : (s : List ℕ) → ((i : ℕ) → get_or s i 0 < 256) → (t : Table) → sheet_of s ≡ Ok t → length s ≤ 52
 accepted_short s byte t e = omega (arith, ap length (read_write s byte t e), sheet_short t (read_valid s byte t e))

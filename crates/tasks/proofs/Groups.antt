@@ -11,10 +11,10 @@ use lib.Dec.{ltb}
 use lib.ListN.{length, get_or, drop}
 use lib.Seq.{drop-cons}
 use borrow.Author.Tests.{lt-ltb, le-ltb, ltb-true, ltb-false}
-use Rattle.tasks.specs.Number.{value, groups_in, groups, Canonical, bytes_of, number_bytes, above, number_in, number_at}
+use Rattle.std.specs.Prelude.{Ok, Err}
+use Rattle.tasks.specs.declared.refusal.Refusal.{Refusal}
+use Rattle.tasks.specs.Number.{Read, value, groups_in, groups, Canonical, bytes_of, number_bytes, above, number_in, number_at}
 use Rattle.tasks.specs.Number.Canonical.{alone, before}
-use Rattle.tasks.specs.declared.number.Number.{Number}
-use Rattle.tasks.specs.declared.number.Number.TheVariants.{Value, Refused}
 use Rattle.lists.proofs.Bools.{by_bool}
 
 -- ---- the groups of a number
@@ -152,17 +152,17 @@ part_here (x ∷ s) (suc at) b l e =
 -- what stands at a place is read, where its groups are canonical and few enough
 pub read_bytes :
     {least : ℕ} {gs : List ℕ} → Canonical least gs → least ≤ 1 → (most : ℕ) → length gs ≤ most → (s : List ℕ) (at : ℕ) (rest : List ℕ) → drop at s ≡ bytes_of gs ++ rest
-    → number_in most least s at ≡ Value (value gs) (at + length gs)
+    → number_in most least s at ≡ Ok (value gs, at + length gs)
 unfolding number_in value bytes_of
 read_bytes c d zero h s at rest e = absurd (omega (arith, some_group c))
 read_bytes (alone {least = least} {g = g} l b) d (suc most) h s at rest e =
     let p = part_here s at g rest e in
-    rw (lt-ltb at (length s) p.0, p.1, le-ltb g least l, lt-ltb g 128 b) (ap (λ v. Value v (at + 1)) (omega arith))
+    rw (lt-ltb at (length s) p.0, p.1, le-ltb g least l, lt-ltb g 128 b) (ap (λ v. Ok (v, at + 1)) (omega arith))
 read_bytes (before {least = least} {g = g} {gs = gs} b c) d (suc most) h s at rest e =
     let p = part_here s at (g + 128) (bytes_of gs ++ rest) (e ∙ ap (λ l. l ++ rest) (bytes_before g c)) in
     rw
     (lt-ltb at (length s) p.0, p.1, le-ltb (g + 128) least (omega arith), le-ltb (g + 128) 128 (omega arith), read_bytes c (omega arith) most (omega arith) s (at + 1) rest p.2)
-    (ap₂ Value (omega arith) (omega arith))
+    (ap₂ (λ v next. Ok (v, next)) (omega arith) (omega arith))
 
 -- the groups that a number was read from
 pub record From (most least : ℕ) (s : List ℕ) (at v next : ℕ) : Type 0 where
@@ -174,16 +174,22 @@ pub record From (most least : ℕ) (s : List ℕ) (at v next : ℕ) : Type 0 whe
   pub ends : next ≡ at + length gs
   pub inside : next ≤ length s
 
-pub no_value : {X : Type 0} {r v next : ℕ} → Refused r ≡ Value v next → X
+pub no_value : {X A : Type 0} {r : Refusal} {v : A} {next : ℕ} → ◌≡◌ {A = Read A} (Err r) (Ok (v, next)) → X
 no_value e = absurd (let z : ◌≡◌ {A = ℕ} 0 1 = cc in omega arith)
+
+-- what was read is told by its value and the next place
+pub read_same : {A : Type 0} {v w : A} {n m : ℕ} → ◌≡◌ {A = Read A} (Ok (v, n)) (Ok (w, m)) → (v ≡ w) × (n ≡ m)
+read_same {A} {v} {w} {n} {m} e =
+    let p : ◌≡◌ {A = A × ℕ} (v, n) (w, m) = cc in
+    (ap (λ (x : A × ℕ). x.0) p, ap (λ (x : A × ℕ). x.1) p)
 
 module _ (s : List ℕ) (byte : (i : ℕ) → get_or s i 0 < 256) where
   -- a byte that ends a number
-  ends_here : (k least at v next : ℕ) → at < length s → least ≤ get_or s at 0 → get_or s at 0 < 128 → Value (get_or s at 0) (at + 1) ≡ Value v next → From (suc k) least s at v next
+  ends_here : (k least at v next : ℕ) → at < length s → least ≤ get_or s at 0 → get_or s at 0 < 128 → ◌≡◌ {A = Read ℕ} (Ok (get_or s at 0, at + 1)) (Ok (v, next)) → From (suc k) least s at v next
   unfolding value bytes_of
   ends_here k least at v next h l b e =
-      let next-is : at + 1 ≡ next = cc in
-      let value-is : get_or s at 0 ≡ v = cc in
+      let next-is : at + 1 ≡ next = (read_same e).1 in
+      let value-is : get_or s at 0 ≡ v = (read_same e).0 in
       record {
         gs = get_or s at 0 ∷ [];
         canonical = alone l b;
@@ -196,14 +202,14 @@ module _ (s : List ℕ) (byte : (i : ℕ) → get_or s i 0 < 256) where
 
   -- a byte before what later ones gave
   goes_on :
-      (k least at v next : ℕ) → at < length s → 128 ≤ get_or s at 0 → (r : Number) → above (get_or s at 0 - 128) r ≡ Value v next
-      → ((w : ℕ) → r ≡ Value w next → From k 1 s (at + 1) w next) → From (suc k) least s at v next
+      (k least at v next : ℕ) → at < length s → 128 ≤ get_or s at 0 → (r : Read ℕ) → above (get_or s at 0 - 128) r ≡ Ok (v, next)
+      → ((w : ℕ) → r ≡ Ok (w, next) → From k 1 s (at + 1) w next) → From (suc k) least s at v next
   unfolding value
-  goes_on k least at v next h b (Refused r) e later = no_value e
-  goes_on k least at v next h b (Value w n) e later =
-      let n-is : n ≡ next = cc in
-      let value-is : get_or s at 0 - 128 + 128 * w ≡ v = cc in
-      let f = later w (ap (λ n. Value w n) n-is) in
+  goes_on k least at v next h b (Err r) e later = no_value e
+  goes_on k least at v next h b (Ok (w, n)) e later =
+      let n-is : n ≡ next = (read_same e).1 in
+      let value-is : get_or s at 0 - 128 + 128 * w ≡ v = (read_same e).0 in
+      let f = later w (ap (λ n. Ok (w, n)) n-is) in
       let g = get_or s at 0 - 128 in
       let high : get_or s at 0 ≡ g + 128 = omega arith in
       record {
@@ -220,7 +226,7 @@ module _ (s : List ℕ) (byte : (i : ℕ) → get_or s i 0 < 256) where
       }
 
   -- what is read stands there
-  pub read_from : (most least at v next : ℕ) → number_in most least s at ≡ Value v next → From most least s at v next
+  pub read_from : (most least at v next : ℕ) → number_in most least s at ≡ Ok (v, next) → From most least s at v next
   unfolding number_in
   read_from zero least at v next e = no_value e
   read_from (suc k) least at v next e =
@@ -238,11 +244,11 @@ module _ (s : List ℕ) (byte : (i : ℕ) → get_or s i 0 < 256) where
 -- the bytes of a number of at most two groups are read as that number
 pub number_read :
     (x : ℕ) → x < 16384 → (s : List ℕ) (at : ℕ) (rest : List ℕ) → drop at s ≡ number_bytes x ++ rest
-    → number_at s at ≡ Value x (at + length (number_bytes x))
+    → number_at s at ≡ Ok (x, at + length (number_bytes x))
 unfolding number_at number_bytes groups
 number_read x h s at rest e =
     read_bytes (groups_canonical x) (omega arith) 2 (few_in x x 1 (omega arith) h) s at rest e
-    ∙ ap₂ Value (value_groups x) (ap (λ n. at + n) (sym (number_length x)))
+    ∙ ap₂ (λ v next. Ok (v, next)) (value_groups x) (ap (λ n. at + n) (sym (number_length x)))
 
 -- what is read at a place are the bytes of the number
 pub record Stands (s : List ℕ) (at v next : ℕ) : Type 0 where
@@ -251,7 +257,7 @@ pub record Stands (s : List ℕ) (at v next : ℕ) : Type 0 where
   pub inside : next ≤ length s
 
 pub number_stands :
-    (s : List ℕ) → ((i : ℕ) → get_or s i 0 < 256) → (at v next : ℕ) → number_at s at ≡ Value v next → Stands s at v next
+    (s : List ℕ) → ((i : ℕ) → get_or s i 0 < 256) → (at v next : ℕ) → number_at s at ≡ Ok (v, next) → Stands s at v next
 unfolding number_at number_bytes
 number_stands s byte at v next e =
     let f = read_from s byte 2 0 at v next e in

@@ -5,14 +5,15 @@ use mathlib.Core.List.{List, [], ◌∷◌, ◌++◌}
 use mathlib.Core.Bool.{false}
 use native.Mathlib.Omega.{arith}
 use lib.ListN.{length}
+use Rattle.std.specs.Prelude.{Result, Ok, Err}
+use Rattle.tasks.specs.declared.refusal.Refusal.{Refusal}
 use Rattle.tasks.specs.Table.{table_fault}
 use Rattle.tasks.specs.State.{start, improper}
 use Rattle.tasks.specs.Tick.{ticked}
 use Rattle.tasks.specs.Replay.{play_next, played, replayed}
 use Rattle.tasks.specs.declared.state.State.{State}
 use Rattle.tasks.specs.declared.table.Table.{Table}
-use Rattle.tasks.specs.declared.tick.TickAnswer.{TickAnswer}
-use Rattle.tasks.specs.declared.tick.TickAnswer.TheVariants as Tick
+use Rattle.tasks.specs.declared.tick.Step.{Step}
 use Rattle.tasks.specs.declared.play.Outcome.TheVariants.{Kept}
 use Rattle.tasks.specs.declared.play.ReplayAnswer.TheVariants.{Played}
 use Rattle.tasks.specs.declared.play.Replayed.{Replayed}
@@ -26,11 +27,11 @@ kept s = record { answer = Played Kept; state = s }
 
 -- where a tick goes on to a kept list it answered with the next state, and what follows from the rest follows
 pub next_kept :
-    {X : Type 0} (k : ℕ) (s s₁ s' : State) (rest : Replayed) (a : TickAnswer) → play_next k s s₁ rest a ≡ kept s'
-    → (a ≡ Tick.Next → rest ≡ kept s' → X) → X
-next_kept k s s₁ s' rest Tick.Next e f = f refl e
-next_kept k s s₁ s' rest Tick.Missed e f = absurd (let z : ◌≡◌ {A = ℕ} 0 1 = cc (ap (λ r. r.answer) e) in omega arith)
-next_kept k s s₁ s' rest (Tick.Refused n) e f = absurd (let z : ◌≡◌ {A = ℕ} 0 1 = cc (ap (λ r. r.answer) e) in omega arith)
+    {X : Type 0} (k : ℕ) (s s₁ s' : State) (rest : Replayed) (a : Result Step Refusal) → play_next k s s₁ rest a ≡ kept s'
+    → (a ≡ (Ok Step.Next) → rest ≡ kept s' → X) → X
+next_kept k s s₁ s' rest (Ok Step.Next) e f = f refl e
+next_kept k s s₁ s' rest (Ok Step.Missed) e f = absurd (let z : ◌≡◌ {A = ℕ} 0 1 = cc (ap (λ r. r.answer) e) in omega arith)
+next_kept k s s₁ s' rest (Err n) e f = absurd (let z : ◌≡◌ {A = ℕ} 0 1 = cc (ap (λ r. r.answer) e) in omega arith)
 
 module _ (t : Table) where
   -- LAW: where a list is kept, a list after it is played from its state, with tick numbers raised by its length
@@ -55,7 +56,7 @@ module _ (t : Table) where
       next_kept (k + 1) s s₁ s' (played t s₁ (k + 1) masks) (ticked t s mask).answer e
       (λ next rest. played_proper s₁ (k + 1) masks s' (ticked_proper t s mask next) rest)
 
-  played_one : (s : State) (k mask : ℕ) → (ticked t s mask).answer ≡ Tick.Next → played t s k (mask ∷ []) ≡ kept (ticked t s mask).state
+  played_one : (s : State) (k mask : ℕ) → (ticked t s mask).answer ≡ (Ok Step.Next) → played t s k (mask ∷ []) ≡ kept (ticked t s mask).state
   unfolding played
   played_one s k mask e = ap (play_next (k + 1) s (ticked t s mask).state (kept (ticked t s mask).state)) e
 
@@ -69,7 +70,7 @@ module _ (t : Table) where
 
     -- LAW: a replay that is kept, and one tick more that neither refuses nor misses
     pub kept_more :
-        (l : List ℕ) (s : State) (mask : ℕ) → replayed t l ≡ kept s → (ticked t s mask).answer ≡ Tick.Next
+        (l : List ℕ) (s : State) (mask : ℕ) → replayed t l ≡ kept s → (ticked t s mask).answer ≡ (Ok Step.Next)
         → replayed t (l ++ (mask ∷ [])) ≡ kept (ticked t s mask).state
     kept_more l s mask e next =
         sym (is_played (l ++ (mask ∷ []))) ∙ played_joined start 0 l (mask ∷ []) s (is_played l ∙ e) ∙ played_one s (0 + length l) mask next

@@ -16,6 +16,7 @@ pub mod Choice
 pub mod Place
 pub mod After
 pub mod Bits
+pub mod Refusals
 pub mod InWords
 pub mod Ticking
 pub mod Proper

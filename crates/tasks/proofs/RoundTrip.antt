@@ -10,66 +10,50 @@ use lib.ListN.{length, get_or, drop, length-append, length-drop, length-set, dro
 use lib.Seq.{drop-drop, drop-append_seam, get_or-set_same, get_or-set_other, ext_get_or}
 use borrow.Author.Tests.{le-ltb, ltb-false}
 use Rattle.lists.specs.Lists.{pick, front}
+use Rattle.std.specs.Prelude.{Result, Ok, Err}
+use Rattle.tasks.specs.declared.refusal.Refusal.{Refusal}
 use Rattle.tasks.specs.Table.{last_policy, breaks, table_fault}
-use Rattle.tasks.specs.Number.{number_bytes, number_at}
-use Rattle.tasks.specs.Sheet.{empty_table, refused_with, accepted_as, field_at, and_then, task_of, task_then, task_at, with_task, after_task, tasks_from, from_tasks, from_policy, sheet_of, task_bytes, tasks_bytes, sheet_bytes}
-use Rattle.tasks.specs.declared.number.Number.{Number}
-use Rattle.tasks.specs.declared.number.Number.TheVariants.{Value, Refused}
+use Rattle.tasks.specs.Number.{Read, number_bytes, number_at}
+use Rattle.tasks.specs.Sheet.{empty_table, field_at, and_then, task_of, task_at, with_task, tasks_from, from_tasks, from_policy, sheet_of, task_bytes, tasks_bytes, sheet_bytes}
 use Rattle.tasks.specs.declared.table.Table.{Table}
-use Rattle.tasks.specs.declared.sheet.Sheet.{Sheet}
 use Rattle.tasks.specs.declared.sheet.Task.{Task}
-use Rattle.tasks.specs.declared.sheet.TaskRead.{TaskRead}
+use Rattle.tasks.specs.declared.refusal.Refusal.TheVariants.{FieldCount, Policy, Processors, TaskCount}
 use Rattle.lists.proofs.Bools.{by_bool}
 use Rattle.lists.proofs.Fill.{eight_at, front_at, front_more}
-use Rattle.tasks.proofs.Groups.{Stands, number_stands, number_read}
+use Rattle.tasks.proofs.Groups.{read_same, Stands, number_stands, number_read}
 use Rattle.tasks.proofs.Fields.{field_read, field_passes}
 use Rattle.tasks.proofs.Tables.{FitTask, fit_task, task_fits, Valid, valid, not_refused}
 
 -- ---- what an accepted reading says
 
-not_accepted : {X : Type 0} {r : ℕ} {t : Table} → refused_with r ≡ accepted_as t → X
-not_accepted e =
-    let f = ap (λ (x : Sheet). x.answer) e in
-    absurd (let z : ◌≡◌ {A = ℕ} 0 1 = cc in omega arith)
+no_answer : {X A : Type 0} {r : Refusal} {x : A} → ◌≡◌ {A = Result A Refusal} (Err r) (Ok x) → X
+no_answer e = absurd (let z : ◌≡◌ {A = ℕ} 0 1 = cc in omega arith)
 
--- a number was read, and the rest is accepted
-pub record Passed (x : Number) (rest : ℕ → ℕ → Sheet) (t : Table) : Type 0 where
-  pub v : ℕ
+-- something was read, and the rest is accepted
+pub record Passed {A B : Type 0} (x : Read A) (rest : A → ℕ → Result B Refusal) (t : B) : Type 0 where
+  pub v : A
   pub next : ℕ
-  pub is : x ≡ Value v next
-  pub then : rest v next ≡ accepted_as t
+  pub is : x ≡ Ok (v, next)
+  pub then : rest v next ≡ Ok t
 
-passed : (x : Number) (rest : ℕ → ℕ → Sheet) (t : Table) → and_then x rest ≡ accepted_as t → Passed x rest t
-passed (Value v next) rest t e = record { v = v; next = next; is = refl; then = e }
-passed (Refused r) rest t e = not_accepted e
+pub passed : {A B : Type 0} (x : Read A) (rest : A → ℕ → Result B Refusal) (t : B) → and_then x rest ≡ Ok t → Passed x rest t
+passed (Ok (v, next)) rest t e = record { v = v; next = next; is = refl; then = e }
+passed (Err r) rest t e = no_answer e
 
 -- a task was read: its three numbers stand one after the other, and fit
 pub record TaskStands (s : List ℕ) (at : ℕ) (task : Task) (next : ℕ) : Type 0 where
   pub fits : FitTask task.work task.deadline task.gap
   pub bytes : drop at s ≡ (number_bytes task.work ++ (number_bytes task.deadline ++ number_bytes task.gap)) ++ drop next s
 
-no_task : {X : Type 0} {r next : ℕ} {task : Task} → TaskRead.Refused r ≡ TaskRead.Read task next → X
-no_task e = absurd (let z : ◌≡◌ {A = ℕ} 0 1 = cc in omega arith)
-
-pub task_of_lem : (work deadline gap n : ℕ) {task : Task} {next : ℕ} → task_of work deadline gap n ≡ TaskRead.Read task next
+pub task_of_lem : (work deadline gap n : ℕ) {task : Task} {next : ℕ} → task_of work deadline gap n ≡ Ok (task, next)
     → FitTask work deadline gap × (work ≡ task.work) × (deadline ≡ task.deadline) × (gap ≡ task.gap) × (n ≡ next)
 unfolding task_of
 task_of_lem work deadline gap n {task} {next} e =
-    by_bool (breaks work deadline gap) (λ h. no_task (rw h at e))
+    by_bool (breaks work deadline gap) (λ h. no_answer (rw h at e))
     (λ h.
-    let f : TaskRead.Read (record { work = work; deadline = deadline; gap = gap }) n ≡ TaskRead.Read task next = rw h at e in
-    let g : ◌≡◌ {A = Task} (record { work = work; deadline = deadline; gap = gap }) task = cc in
-    (fit_task h, ap (λ (x : Task). x.work) g, ap (λ (x : Task). x.deadline) g, ap (λ (x : Task). x.gap) g, cc))
-
-pub record TaskPassed (x : Number) (rest : ℕ → ℕ → TaskRead) (task : Task) (next : ℕ) : Type 0 where
-  pub v : ℕ
-  pub at : ℕ
-  pub is : x ≡ Value v at
-  pub then : rest v at ≡ TaskRead.Read task next
-
-pub task_passed : (x : Number) (rest : ℕ → ℕ → TaskRead) (task : Task) (next : ℕ) → task_then x rest ≡ TaskRead.Read task next → TaskPassed x rest task next
-task_passed (Value v at) rest task next e = record { v = v; at = at; is = refl; then = e }
-task_passed (Refused r) rest task next e = no_task e
+    let f : ◌≡◌ {A = Read Task} (Ok (record { work = work; deadline = deadline; gap = gap }, n)) (Ok (task, next)) = rw h at e in
+    let g : ◌≡◌ {A = Task} (record { work = work; deadline = deadline; gap = gap }) task = (read_same f).0 in
+    (fit_task h, ap (λ (x : Task). x.work) g, ap (λ (x : Task). x.deadline) g, ap (λ (x : Task). x.gap) g, (read_same f).1))
 
 -- three numbers, one after the other
 three :
@@ -85,17 +69,17 @@ three s at C a D b P n task next f c d p e x y z =
     }
 
 module _ (s : List ℕ) (byte : (i : ℕ) → get_or s i 0 < 256) where
-  task_stands : (at : ℕ) (task : Task) (next : ℕ) → task_at s at ≡ TaskRead.Read task next → TaskStands s at task next
+  task_stands : (at : ℕ) (task : Task) (next : ℕ) → task_at s at ≡ Ok (task, next) → TaskStands s at task next
   unfolding task_at
   task_stands at task next e =
-      let a = task_passed (number_at s at) (λ work a. task_then (number_at s a) (λ deadline b. task_then (number_at s b) (λ gap next. task_of work deadline gap next))) task next e in
-      let b = task_passed (number_at s a.at) (λ deadline b. task_then (number_at s b) (λ gap next. task_of a.v deadline gap next)) task next a.then in
-      let c = task_passed (number_at s b.at) (λ gap next. task_of a.v b.v gap next) task next b.then in
-      let d = task_of_lem a.v b.v c.v c.at c.then in
-      three s at a.v a.at b.v b.at c.v c.at task next d.0 d.1 d.2 d.3 d.4
-      (number_stands s byte at a.v a.at a.is)
-      (number_stands s byte a.at b.v b.at b.is)
-      (number_stands s byte b.at c.v c.at c.is)
+      let a = passed (number_at s at) (λ work a. and_then (number_at s a) (λ deadline b. and_then (number_at s b) (λ gap next. task_of work deadline gap next))) (task, next) e in
+      let b = passed (number_at s a.next) (λ deadline b. and_then (number_at s b) (λ gap next. task_of a.v deadline gap next)) (task, next) a.then in
+      let c = passed (number_at s b.next) (λ gap next. task_of a.v b.v gap next) (task, next) b.then in
+      let d = task_of_lem a.v b.v c.v c.next c.then in
+      three s at a.v a.next b.v b.next c.v c.next task next d.0 d.1 d.2 d.3 d.4
+      (number_stands s byte at a.v a.next a.is)
+      (number_stands s byte a.next b.v b.next b.is)
+      (number_stands s byte b.next c.v c.next c.is)
 
 -- ---- the tasks of an accepted sheet
 
@@ -199,12 +183,13 @@ tasks_more k i t u s at task next e h x r =
     }
 
 module _ (s : List ℕ) (byte : (i : ℕ) → get_or s i 0 < 256) where
-  tasks_read : (k i : ℕ) (t u : Table) (at : ℕ) → Eight t → i + k ≤ 8 → tasks_from k i t s at ≡ accepted_as u → TasksRead k i t u s at
+  tasks_read : (k i : ℕ) (t u : Table) (at : ℕ) → Eight t → i + k ≤ 8 → tasks_from k i t s at ≡ Ok u → TasksRead k i t u s at
   unfolding tasks_from tasks_bytes
   tasks_read zero i t u at e h q =
-      by_bool (ltb at (length s)) (λ l. not_accepted (rw l at q))
+      by_bool (ltb at (length s)) (λ l. no_answer (rw l at q))
       (λ l.
-      let same : t ≡ u = ap (λ (x : Sheet). x.table) (rw l at q) in
+      let f : ◌≡◌ {A = Result Table Refusal} (Ok t) (Ok u) = rw l at q in
+      let same : t ≡ u = cc in
       rw (← same)
       (record {
         bytes = drop_of_length-le s (ltb-false at (length s) l);
@@ -219,10 +204,10 @@ module _ (s : List ℕ) (byte : (i : ℕ) → get_or s i 0 < 256) where
   tasks_read (suc k) i t u at e h q = go (task_at s at) refl q (λ t next. tasks_read k (i + 1) t u next)
     where
       go :
-          (r : TaskRead) → task_at s at ≡ r → after_task r (λ task next. tasks_from k (i + 1) (with_task t i task) s next) ≡ accepted_as u
-          → ((t : Table) (next : ℕ) → Eight t → i + 1 + k ≤ 8 → tasks_from k (i + 1) t s next ≡ accepted_as u → TasksRead k (i + 1) t u s next) → TasksRead (suc k) i t u s at
-      go (TaskRead.Refused r) p f more = not_accepted f
-      go (TaskRead.Read task next) p f more =
+          (r : Read Task) → task_at s at ≡ r → and_then r (λ task next. tasks_from k (i + 1) (with_task t i task) s next) ≡ Ok u
+          → ((t : Table) (next : ℕ) → Eight t → i + 1 + k ≤ 8 → tasks_from k (i + 1) t s next ≡ Ok u → TasksRead k (i + 1) t u s next) → TasksRead (suc k) i t u s at
+      go (Err r) p f more = no_answer f
+      go (Ok (task, next)) p f more =
           tasks_more k i t u s at task next e (omega arith) (task_stands s byte at task next p)
           (more (with_task t i task) next (set_eight t i task e) (omega arith) f)
 
@@ -265,20 +250,20 @@ whole s t a policy b m c n d x p y q z r w tasks =
     }
 
 module _ (s : List ℕ) (byte : (i : ℕ) → get_or s i 0 < 256) where
-  pub accepted : (t : Table) → sheet_of s ≡ accepted_as t → Accepted s t
+  pub accepted : (t : Table) → sheet_of s ≡ Ok t → Accepted s t
   unfolding sheet_of from_policy from_tasks
   accepted t e =
-      let a = passed (field_at s 0 3 3 3) (λ fields. from_policy s) t e in
-      let b = passed (field_at s a.next 0 last_policy 4) (λ policy b. and_then (field_at s b 1 8 5) (λ m c. and_then (field_at s c 1 8 6) (λ n d. from_tasks s policy m n d))) t a.then in
-      let c = passed (field_at s b.next 1 8 5) (λ m c. and_then (field_at s c 1 8 6) (λ n d. from_tasks s b.v m n d)) t b.then in
-      let d = passed (field_at s c.next 1 8 6) (λ n d. from_tasks s b.v c.v n d) t c.then in
-      let A = field_read s 0 3 3 3 {v = a.v} {next = a.next} a.is in
-      let B = field_read s a.next 0 last_policy 4 {v = b.v} {next = b.next} b.is in
-      let C = field_read s b.next 1 8 5 {v = c.v} {next = c.next} c.is in
-      let D = field_read s c.next 1 8 6 {v = d.v} {next = d.next} d.is in
+      let a = passed (field_at s 0 3 3 FieldCount) (λ fields. from_policy s) t e in
+      let b = passed (field_at s a.next 0 last_policy Policy) (λ policy b. and_then (field_at s b 1 8 Processors) (λ m c. and_then (field_at s c 1 8 TaskCount) (λ n d. from_tasks s policy m n d))) t a.then in
+      let c = passed (field_at s b.next 1 8 Processors) (λ m c. and_then (field_at s c 1 8 TaskCount) (λ n d. from_tasks s b.v m n d)) t b.then in
+      let d = passed (field_at s c.next 1 8 TaskCount) (λ n d. from_tasks s b.v c.v n d) t c.then in
+      let A = field_read s 0 3 3 FieldCount {v = a.v} {next = a.next} a.is in
+      let B = field_read s a.next 0 last_policy Policy {v = b.v} {next = b.next} b.is in
+      let C = field_read s b.next 1 8 Processors {v = c.v} {next = c.next} c.is in
+      let D = field_read s c.next 1 8 TaskCount {v = d.v} {next = d.next} d.is in
       let three-is : a.v ≡ 3 = omega (arith, A.from, A.upto) in
       whole s t a.next b.v b.next c.v c.next d.v d.next
-      (number_stands s byte 0 3 a.next (A.number ∙ ap (λ v. Value v a.next) three-is))
+      (number_stands s byte 0 3 a.next (A.number ∙ ap (λ v. Ok (v, a.next)) three-is))
       B.upto
       (number_stands s byte a.next b.v b.next B.number)
       (C.from, C.upto)
@@ -288,11 +273,11 @@ module _ (s : List ℕ) (byte : (i : ℕ) → get_or s i 0 < 256) where
       (tasks_read s byte d.v 0 (empty_table b.v c.v d.v) t d.next (empty_eight b.v c.v d.v) (omega (arith, D.upto)) d.then)
 
   -- an accepted sheet read and written has the same bytes
-  pub read_write : (t : Table) → sheet_of s ≡ accepted_as t → sheet_bytes t ≡ s
+  pub read_write : (t : Table) → sheet_of s ≡ Ok t → sheet_bytes t ≡ s
   read_write t e = (accepted t e).bytes
 
   -- the table of an accepted sheet is valid
-  pub read_valid : (t : Table) → sheet_of s ≡ accepted_as t → table_fault t ≡ 0
+  pub read_valid : (t : Table) → sheet_of s ≡ Ok t → table_fault t ≡ 0
   read_valid t e = not_refused t (accepted t e).valid
 
 -- ---- the sheet of a valid table
@@ -355,7 +340,7 @@ firsts_all t e v = λ k.
 -- the task that stands at a place is read
 task_read :
     (s : List ℕ) (at : ℕ) (t : Table) (i : ℕ) (rest : List ℕ) → FitTask (get_or t.work i 0) (get_or t.deadline i 0) (get_or t.gap i 0) → drop at s ≡ task_bytes t i ++ rest
-    → task_at s at ≡ TaskRead.Read (entry t i) (at + length (task_bytes t i))
+    → task_at s at ≡ Ok (entry t i, at + length (task_bytes t i))
 unfolding task_at task_of task_bytes entry
 task_read s at t i rest f e =
     let C = get_or t.work i 0 in
@@ -371,15 +356,15 @@ task_read s at t i rest f e =
     omega (arith, length-append (number_bytes C) (number_bytes D ++ number_bytes P), length-append (number_bytes D) (number_bytes P)) in
     rw
     (number_read C small.0 s at ((number_bytes D ++ number_bytes P) ++ rest) e₁, number_read D small.1 s (at + length (number_bytes C)) (number_bytes P ++ rest) e₂, number_read P small.2 s (at + length (number_bytes C) + length (number_bytes D)) rest e₃, task_fits f)
-    (ap (λ n. TaskRead.Read (record { work = C; deadline = D; gap = P }) n) ends)
+    (ap (λ n. Ok (record { work = C; deadline = D; gap = P }, n)) ends)
 
 module _ (t : Table) (e : Eight t) (v : Valid t) (s : List ℕ) where
-  tasks_written : (k i at : ℕ) → i + k ≡ t.n → drop at s ≡ tasks_bytes t k i → tasks_from k i (firsts t i) s at ≡ accepted_as t
+  tasks_written : (k i at : ℕ) → i + k ≡ t.n → drop at s ≡ tasks_bytes t k i → tasks_from k i (firsts t i) s at ≡ Ok t
   unfolding tasks_from tasks_bytes
   tasks_written zero i at h q =
       let over : length s ≤ at = omega (arith, length-drop at s, ap length q) in
       let all : i ≡ t.n = omega arith in
-      rw (le-ltb at (length s) over) (ap accepted_as (ap (firsts t) all ∙ firsts_all t e v))
+      rw (le-ltb at (length s) over) (ap Ok (ap (firsts t) all ∙ firsts_all t e v))
   tasks_written (suc k) i at h q =
       let i8 : i < 8 = omega (arith, v.tasks.1) in
       let read = task_read s at t i (tasks_bytes t k (i + 1)) (v.each i (omega arith)) q in
@@ -388,13 +373,13 @@ module _ (t : Table) (e : Eight t) (v : Valid t) (s : List ℕ) where
 
 -- a number that stands at a place and keeps its rule is read
 field_stands :
-    (s : List ℕ) (at low high r x : ℕ) (rest : List ℕ) → low ≤ x → x ≤ high → high ≤ 8 → drop at s ≡ number_bytes x ++ rest
-    → field_at s at low high r ≡ Value x (at + length (number_bytes x))
+    (s : List ℕ) (at low high : ℕ) (r : Refusal) (x : ℕ) (rest : List ℕ) → low ≤ x → x ≤ high → high ≤ 8 → drop at s ≡ number_bytes x ++ rest
+    → field_at s at low high r ≡ Ok (x, at + length (number_bytes x))
 field_stands s at low high r x rest l h b e =
     field_passes (record { number = number_read x (omega arith) s at rest e; from = l; upto = h }) r
 
 -- a valid table written and read is the same table
-pub write_read : (t : Table) → Eight t → table_fault t ≡ 0 → sheet_of (sheet_bytes t) ≡ accepted_as t
+pub write_read : (t : Table) → Eight t → table_fault t ≡ 0 → sheet_of (sheet_bytes t) ≡ Ok t
 unfolding sheet_of from_policy from_tasks sheet_bytes firsts
 write_read t e f =
     let v = valid t f in
@@ -411,5 +396,5 @@ write_read t e f =
     let e₄ : drop (0 + length (number_bytes 3) + length (number_bytes t.policy) + length (number_bytes t.m) + length (number_bytes t.n)) s ≡ W =
     after_part s (0 + length (number_bytes 3) + length (number_bytes t.policy) + length (number_bytes t.m)) (number_bytes t.n) W e₃ in
     rw
-    (field_stands s 0 3 3 3 3 X (omega arith) (omega arith) (omega arith) refl, field_stands s (0 + length (number_bytes 3)) 0 last_policy 4 t.policy Y (omega arith) v.policy (omega arith) e₁, field_stands s (0 + length (number_bytes 3) + length (number_bytes t.policy)) 1 8 5 t.m Z v.processors.0 v.processors.1 (omega arith) e₂, field_stands s (0 + length (number_bytes 3) + length (number_bytes t.policy) + length (number_bytes t.m)) 1 8 6 t.n W v.tasks.0 v.tasks.1 (omega arith) e₃)
+    (field_stands s 0 3 3 FieldCount 3 X (omega arith) (omega arith) (omega arith) refl, field_stands s (0 + length (number_bytes 3)) 0 last_policy Policy t.policy Y (omega arith) v.policy (omega arith) e₁, field_stands s (0 + length (number_bytes 3) + length (number_bytes t.policy)) 1 8 Processors t.m Z v.processors.0 v.processors.1 (omega arith) e₂, field_stands s (0 + length (number_bytes 3) + length (number_bytes t.policy) + length (number_bytes t.m)) 1 8 TaskCount t.n W v.tasks.0 v.tasks.1 (omega arith) e₃)
     (tasks_written t e v s t.n 0 (0 + length (number_bytes 3) + length (number_bytes t.policy) + length (number_bytes t.m) + length (number_bytes t.n)) (omega arith) e₄)

@@ -6,13 +6,17 @@ use native.Mathlib.Omega.{arith}
 use lib.ListN.{length, get_or, drop, length-append}
 use lib.Seq.{sets, sets-eq}
 use borrow.Author.Tests.{lt-ltb, le-ltb}
+use Rattle.std.specs.Prelude.{Ok, Err}
+use Rattle.tasks.specs.declared.refusal.Refusal.{Refusal}
 use Rattle.tasks.specs.Table.{table_fault}
 use Rattle.tasks.specs.Number.{number_bytes}
 use Rattle.tasks.specs.Answers.{writing_answer}
 use Rattle.tasks.specs.Sheet.{task_bytes, tasks_bytes, sheet_bytes, write_refusal, write_answer, write_out}
-use Rattle.tasks.specs.declared.writer.Writing.TheVariants.{Written, Refused}
 use Rattle.tasks.specs.declared.table.Table.{Table}
 use Rattle.tasks.proofs.Groups.{bytes_low, few_bytes}
+use Rattle.tasks.specs.Refusals.{refusal_number}
+use Rattle.tasks.specs.declared.refusal.Refusal.TheVariants.{ShortOutput}
+use Rattle.tasks.proofs.Refusals.{refusal_some}
 use Rattle.tasks.proofs.Tables.{Valid, valid}
 
 module _ (t : Table) (n i : ℕ) where
@@ -44,17 +48,19 @@ module _ (t : Table) (out : List ℕ) where
   unfolding write_refusal
   refusal_none e h = rw (e, le-ltb (length out) (length (sheet_bytes t)) h)
 
-  refused : (r : ℕ) → 0 < r → write_refusal t out ≡ r → (writing_answer (Refused r) ≡ write_answer t out) × (out ≡ write_out t out)
+  refused : (r : Refusal) → write_refusal t out ≡ refusal_number r → (writing_answer (Err r) ≡ write_answer t out) × (out ≡ write_out t out)
   unfolding writing_answer write_answer write_out
-  refused r h e = (rw (e, lt-ltb 0 r h), rw (e, lt-ltb 0 r h))
+  refused r e =
+      let h = lt-ltb 0 (refusal_number r) (refusal_some r) in
+      (rw (e, h), rw (e, h))
 
   -- a table that is not valid
-  pub write_fault : 0 < table_fault t → (writing_answer (Refused (table_fault t)) ≡ write_answer t out) × (out ≡ write_out t out)
-  write_fault h = refused (table_fault t) h (refusal_fault h)
+  pub write_fault : (r : Refusal) → table_fault t ≡ refusal_number r → (writing_answer (Err r) ≡ write_answer t out) × (out ≡ write_out t out)
+  write_fault r e = refused r (refusal_fault (omega (arith, e, refusal_some r)) ∙ e)
 
   -- an output that is too short
-  pub write_short : table_fault t ≡ 0 → length out < length (sheet_bytes t) → (writing_answer (Refused 12) ≡ write_answer t out) × (out ≡ write_out t out)
-  write_short e h = refused 12 (omega arith) (refusal_short e h)
+  pub write_short : table_fault t ≡ 0 → length out < length (sheet_bytes t) → (writing_answer (Err ShortOutput) ≡ write_answer t out) × (out ≡ write_out t out)
+  write_short e h = refused ShortOutput (refusal_short e h)
 
   -- the sheet stands at the front of the output
   pub write_out_lem :
@@ -63,7 +69,7 @@ module _ (t : Table) (out : List ℕ) where
   write_out_lem e h = rw (refusal_none e h)
 
   pub write_done :
-      table_fault t ≡ 0 → length (sheet_bytes t) ≤ length out → (writing_answer (Written (length (sheet_bytes t))) ≡ write_answer t out) × (sets out 0 (sheet_bytes t) ≡ write_out t out)
+      table_fault t ≡ 0 → length (sheet_bytes t) ≤ length out → (writing_answer (Ok (length (sheet_bytes t))) ≡ write_answer t out) × (sets out 0 (sheet_bytes t) ≡ write_out t out)
   unfolding writing_answer write_answer
   write_done e h =
       let z : 0 + length (sheet_bytes t) ≡ length (sheet_bytes t) = omega arith in

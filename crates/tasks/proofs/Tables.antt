@@ -8,6 +8,7 @@ use lib.ListN.{get_or}
 use borrow.Author.Tests.{lt-ltb, le-ltb, ltb-true, ltb-false}
 use Rattle.lists.specs.Lists.{pick, any}
 use Rattle.tasks.specs.Table.{last_policy, outside, breaks, fault_at, table_fault}
+use Rattle.tasks.specs.Refusals.{refusal_number, refusal_at}
 use Rattle.tasks.specs.declared.table.Table.{Table}
 use Rattle.lists.proofs.Bools.{by_bool, nor_left, nor_right}
 use Rattle.lists.proofs.Counts.{any_false, none_any}
@@ -49,6 +50,15 @@ pub record Ordered (t : Table) (i : ℕ) : Type 0 where
   pub work : get_or t.work i 0 ≤ get_or t.deadline i 0
   pub deadline : get_or t.deadline i 0 ≤ get_or t.gap i 0
   pub least : get_or t.gap i 0 ≤ 200
+
+-- what holds of both numbers holds of the one picked
+pub pick_case : {A : Type 0} (P : A → Type 0) (b : Bool) {x y : A} → P x → P y → P (pick b x y)
+pick_case P true p q = p
+pick_case P false p q = q
+
+-- 0, or the number of a refusal
+abbrev pub Named : ℕ → Type 0
+Named n = 0 < n → n ≡ refusal_number (refusal_at n)
 
 -- a refusal that is 0 was not picked
 pub pick_zero : (b : Bool) (k r : ℕ) → 0 < k → pick b k r ≡ 0 → (b ≡ false) × (r ≡ 0)
@@ -109,6 +119,15 @@ module _ (t : Table) where
   not_refused v =
       rw
       (le-ltb last_policy t.policy v.policy, inside_no t.m v.processors.0 v.processors.1, inside_no t.n v.tasks.0 v.tasks.1, none_any (fault_at t) 8 (fault_none v))
+
+  -- a table's refusal is one of the list
+  pub fault_number : 0 < table_fault t → table_fault t ≡ refusal_number (refusal_at (table_fault t))
+  unfolding table_fault refusal_at
+  fault_number =
+      pick_case Named (ltb last_policy t.policy) {x = 4} (λ h. refl)
+      (pick_case Named (outside t.m) {x = 5} (λ h. refl)
+      (pick_case Named (outside t.n) {x = 6} (λ h. refl)
+      (pick_case Named (any 8 (fault_at t)) {x = 7} {y = 0} (λ h. refl) (λ h. absurd (omega arith)))))
 
   -- C ≤ D ≤ P ≤ 200 for every entry, also after the nth, where all are 0
   pub ordered : table_fault t ≡ 0 → (i : ℕ) → i < 8 → Ordered t i

@@ -1,3 +1,4 @@
+pub mod Refusals
 pub mod Table
 pub mod Number
 pub mod Sheet

@@ -1,9 +1,9 @@
 -- Sheet numbers (document 01, "The sheet as bytes"): groups of seven bits, low group first, each in a byte whose top bit is
 -- set when another follows. Group lists here have any length; a sheet's numbers are limited to two bytes by `number_at` alone.
-use Rattle.std.specs.Prelude.{ℕ, zero, suc, ◌+◌, ◌-◌, ◌*◌, ◌/◌, ◌%◌, ◌≤◌, ◌<◌, List, [], ◌∷◌, length, get_or, ltb}
+use Rattle.std.specs.Prelude.{ℕ, zero, suc, ◌+◌, ◌-◌, ◌*◌, ◌/◌, ◌%◌, ◌≤◌, ◌<◌, List, [], ◌∷◌, length, get_or, ltb, Result, Ok, Err}
 use Rattle.lists.specs.Lists.{pick}
-use Rattle.tasks.specs.declared.number.Number.{Number}
-use Rattle.tasks.specs.declared.number.Number.TheVariants.{Value, Refused}
+use Rattle.tasks.specs.declared.refusal.Refusal.{Refusal}
+use Rattle.tasks.specs.declared.refusal.Refusal.TheVariants.{Incomplete, SecondByte}
 
 -- the value of a group list; this and `Canonical` are what the laws of numbers of any length speak of (proofs/Groups.antt)
 unfoldable pub value : List ℕ → ℕ
@@ -35,21 +35,25 @@ bytes_of (g ∷ h ∷ gs) = (g + 128) ∷ bytes_of (h ∷ gs)
 unfoldable pub number_bytes : ℕ → List ℕ
 number_bytes x = bytes_of (groups x)
 
+-- what reading at a place answers: a value with the place after it, or why there is none
+abbrev pub Read : Type 0 → Type 0
+Read A = Result (A × ℕ) Refusal
+
 -- a group below what the later bytes gave
-abbrev pub above : ℕ → Number → Number
-above g (Value v next) = Value (g + 128 * v) next
-above g (Refused r) = Refused r
+abbrev pub above : ℕ → Read ℕ → Read ℕ
+above g (Ok (v, next)) = Ok (g + 128 * v, next)
+above g (Err r) = Err r
 
 -- reading a number of at most `most` bytes, whose last byte is at least `least`, or 1 where it follows another:
 -- the value and the next place, or refusal 1 where the bytes end first and 2 where a byte breaks the rule
-unfoldable pub number_in : ℕ → ℕ → List ℕ → ℕ → Number
-number_in zero least s at = Refused 2
+unfoldable pub number_in : ℕ → ℕ → List ℕ → ℕ → Read ℕ
+number_in zero least s at = Err SecondByte
 number_in (suc k) least s at =
     pick (ltb at (length s))
-    (pick (ltb (get_or s at 0) least) (Refused 2)
-    (pick (ltb (get_or s at 0) 128) (Value (get_or s at 0) (at + 1)) (above (get_or s at 0 - 128) (number_in k 1 s (at + 1)))))
-    (Refused 1)
+    (pick (ltb (get_or s at 0) least) (Err SecondByte)
+    (pick (ltb (get_or s at 0) 128) (Ok (get_or s at 0, at + 1)) (above (get_or s at 0 - 128) (number_in k 1 s (at + 1)))))
+    (Err Incomplete)
 
 -- a sheet's number: one or two bytes, and a second byte is 1 to 127
-unfoldable pub number_at : List ℕ → ℕ → Number
+unfoldable pub number_at : List ℕ → ℕ → Read ℕ
 number_at s at = number_in 2 0 s at

@@ -1,17 +1,14 @@
 -- The sheet as bytes (document 01, "The sheet as bytes" and "Refusals by cause"). In order: fields for each task (3), policy,
 -- m, n, then C, D, P for each task, and the end. A sheet is judged in reading order: each number 1, 2, then its own rule; 7
 -- after a task's three numbers; 8 for bytes after the last task.
-use Rattle.std.specs.Prelude.{ℕ, zero, suc, ◌+◌, List, [], ◌∷◌, ◌++◌, ◌||◌, length, get_or, set, drop, ltb}
+use Rattle.std.specs.Prelude.{ℕ, zero, suc, ◌+◌, List, [], ◌∷◌, ◌++◌, ◌||◌, length, get_or, set, drop, ltb, Result, Ok, Err}
 use Rattle.lists.specs.Lists.{eight, pick}
 use Rattle.tasks.specs.Table.{last_policy, breaks, table_fault}
-use Rattle.tasks.specs.Number.{number_bytes, number_at}
-use Rattle.tasks.specs.declared.number.Number.{Number}
-use Rattle.tasks.specs.declared.number.Number.TheVariants.{Value, Refused}
+use Rattle.tasks.specs.Number.{Read, number_bytes, number_at}
+use Rattle.tasks.specs.Refusals.{refusal_number, unless_refused}
+use Rattle.tasks.specs.declared.refusal.Refusal.{Refusal}
 use Rattle.tasks.specs.declared.table.Table.{Table}
-use Rattle.tasks.specs.declared.sheet.Reading.{Reading}
-use Rattle.tasks.specs.declared.sheet.Sheet.{Sheet}
 use Rattle.tasks.specs.declared.sheet.Task.{Task}
-use Rattle.tasks.specs.declared.sheet.TaskRead.{TaskRead}
 
 -- a table of n tasks before any is read
 abbrev pub empty_table : ℕ → ℕ → ℕ → Table
@@ -25,48 +22,34 @@ empty_table policy m n =
       gap = eight (λ i. 0);
     }
 
-abbrev pub refused_with : ℕ → Sheet
-refused_with r = record { answer = Reading.Refused r; table = empty_table 0 0 0 }
-
-abbrev pub accepted_as : Table → Sheet
-accepted_as t = record { answer = Reading.Accepted; table = t }
-
--- the refusal r, or the table where r is 0
-unfoldable pub unless_refused : ℕ → Table → Sheet
-unless_refused r t = pick (ltb 0 r) (refused_with r) (accepted_as t)
-
 -- ---- the numbers before the tasks
 
 -- a number's own rule: from low to high, else refusal r
-abbrev pub ruled : ℕ → ℕ → ℕ → Number → Number
-ruled low high r (Value v next) = pick (ltb v low || ltb high v) (Refused r) (Value v next)
-ruled low high r (Refused q) = Refused q
+abbrev pub ruled : ℕ → ℕ → Refusal → Read ℕ → Read ℕ
+ruled low high r (Ok (v, next)) = pick (ltb v low || ltb high v) (Err r) (Ok (v, next))
+ruled low high r (Err q) = Err q
 
-unfoldable pub field_at : List ℕ → ℕ → ℕ → ℕ → ℕ → Number
+unfoldable pub field_at : List ℕ → ℕ → ℕ → ℕ → Refusal → Read ℕ
 field_at s at low high r = ruled low high r (number_at s at)
 
--- the rest of the sheet after a number, or its refusal
-abbrev pub and_then : Number → (ℕ → ℕ → Sheet) → Sheet
-and_then (Value v next) rest = rest v next
-and_then (Refused r) rest = refused_with r
+-- the rest after what was read, or its refusal
+abbrev pub and_then : {A B : Type 0} → Read A → (A → ℕ → Result B Refusal) → Result B Refusal
+and_then (Ok (v, next)) rest = rest v next
+and_then (Err r) rest = Err r
 
 -- ---- a task
 
 -- a task of three numbers, judged once they are read
-unfoldable pub task_of : ℕ → ℕ → ℕ → ℕ → TaskRead
+unfoldable pub task_of : ℕ → ℕ → ℕ → ℕ → Read Task
 task_of work deadline gap next =
-    pick (breaks work deadline gap) (TaskRead.Refused 7)
-    (TaskRead.Read (record { work = work; deadline = deadline; gap = gap }) next)
-
-abbrev pub task_then : Number → (ℕ → ℕ → TaskRead) → TaskRead
-task_then (Value v next) rest = rest v next
-task_then (Refused r) rest = TaskRead.Refused r
+    pick (breaks work deadline gap) (Err Refusal.Task)
+    (Ok (record { work = work; deadline = deadline; gap = gap }, next))
 
 -- the task at a place: C, D and P
-unfoldable pub task_at : List ℕ → ℕ → TaskRead
+unfoldable pub task_at : List ℕ → ℕ → Read Task
 task_at s at =
-    task_then (number_at s at)
-    (λ work a. task_then (number_at s a) (λ deadline b. task_then (number_at s b) (λ gap next. task_of work deadline gap next)))
+    and_then (number_at s at)
+    (λ work a. and_then (number_at s a) (λ deadline b. and_then (number_at s b) (λ gap next. task_of work deadline gap next)))
 
 -- the table with the numbers of task i set
 unfoldable pub with_task : Table → ℕ → Task → Table
@@ -80,37 +63,37 @@ with_task t i task =
       gap = set t.gap i task.gap;
     }
 
--- the rest of the sheet after a task, or its refusal
-abbrev pub after_task : TaskRead → (Task → ℕ → Sheet) → Sheet
-after_task (TaskRead.Read task next) rest = rest task next
-after_task (TaskRead.Refused r) rest = refused_with r
-
 -- ---- the sheet
 
 -- k tasks more, from task i on, and then the end
-unfoldable pub tasks_from : ℕ → ℕ → Table → List ℕ → ℕ → Sheet
-tasks_from zero i t s at = pick (ltb at (length s)) (refused_with 8) (accepted_as t)
+unfoldable pub tasks_from : ℕ → ℕ → Table → List ℕ → ℕ → Result Table Refusal
+tasks_from zero i t s at = pick (ltb at (length s)) (Err Refusal.LaterBytes) (Ok t)
 tasks_from (suc k) i t s at =
-    after_task (task_at s at) (λ task next. tasks_from k (i + 1) (with_task t i task) s next)
+    and_then (task_at s at) (λ task next. tasks_from k (i + 1) (with_task t i task) s next)
 
 -- n tasks, and then the end
-unfoldable pub from_tasks : List ℕ → ℕ → ℕ → ℕ → ℕ → Sheet
+unfoldable pub from_tasks : List ℕ → ℕ → ℕ → ℕ → ℕ → Result Table Refusal
 from_tasks s policy m n at = tasks_from n 0 (empty_table policy m n) s at
 
 -- policy, m and n, and then the tasks
-unfoldable pub from_policy : List ℕ → ℕ → Sheet
+unfoldable pub from_policy : List ℕ → ℕ → Result Table Refusal
 from_policy s at =
-    and_then (field_at s at 0 last_policy 4)
-    (λ policy a. and_then (field_at s a 1 8 5) (λ m b. and_then (field_at s b 1 8 6) (λ n next. from_tasks s policy m n next)))
+    and_then (field_at s at 0 last_policy Refusal.Policy)
+    (λ policy a. and_then (field_at s a 1 8 Refusal.Processors) (λ m b. and_then (field_at s b 1 8 Refusal.TaskCount) (λ n next. from_tasks s policy m n next)))
 
 -- what reading a sheet answers
-unfoldable pub sheet_of : List ℕ → Sheet
-sheet_of s = and_then (field_at s 0 3 3 3) (λ fields. from_policy s)
+unfoldable pub sheet_of : List ℕ → Result Table Refusal
+sheet_of s = and_then (field_at s 0 3 3 Refusal.FieldCount) (λ fields. from_policy s)
+
+-- the table of a sheet that is accepted; of one that is refused a table of zeros
+abbrev pub table_in : Result Table Refusal → Table
+table_in (Ok t) = t
+table_in (Err r) = empty_table 0 0 0
 
 -- the refusal of a call that is given a sheet: the sheet's own, or else the rest's
-abbrev pub after_reading : Reading → ℕ → ℕ
-after_reading Reading.Accepted rest = rest
-after_reading (Reading.Refused r) rest = r
+abbrev pub after_reading : Result Table Refusal → ℕ → ℕ
+after_reading (Ok t) rest = rest
+after_reading (Err r) rest = refusal_number r
 
 -- ---- the writer
 
@@ -144,21 +127,21 @@ write_out t out = pick (ltb 0 (write_refusal t out)) out (sheet_bytes t ++ drop 
 -- ---- read and written again
 
 -- what is answered where the reading is accepted, or its refusal
-abbrev pub if_read : Reading → List ℕ → List ℕ
-if_read Reading.Accepted w = w
-if_read (Reading.Refused r) w = 0 ∷ r ∷ []
+abbrev pub if_read : Result Table Refusal → List ℕ → List ℕ
+if_read (Ok t) w = w
+if_read (Err r) w = 0 ∷ refusal_number r ∷ []
 
-abbrev pub out_if_read : Reading → List ℕ → List ℕ → List ℕ
-out_if_read Reading.Accepted new old = new
-out_if_read (Reading.Refused r) new old = old
+abbrev pub out_if_read : Result Table Refusal → List ℕ → List ℕ → List ℕ
+out_if_read (Ok t) new old = new
+out_if_read (Err r) new old = old
 
 -- an accepted sheet read and written has the same bytes: the answer, and the output afterwards
 unfoldable pub copy_answer : List ℕ → List ℕ → List ℕ
-copy_answer s out = if_read (sheet_of s).answer (pick (ltb (length out) (length s)) (0 ∷ 12 ∷ []) (1 ∷ length s ∷ []))
+copy_answer s out = if_read (sheet_of s) (pick (ltb (length out) (length s)) (0 ∷ 12 ∷ []) (1 ∷ length s ∷ []))
 
 unfoldable pub copy_out : List ℕ → List ℕ → List ℕ
-copy_out s out = out_if_read (sheet_of s).answer (pick (ltb (length out) (length s)) out (s ++ drop (length s) out)) out
+copy_out s out = out_if_read (sheet_of s) (pick (ltb (length out) (length s)) out (s ++ drop (length s) out)) out
 
 -- a valid table written and read is the same table
-unfoldable pub table_again : Table → Sheet
-table_again t = pick (ltb 0 (table_fault t)) (refused_with (table_fault t)) (accepted_as t)
+unfoldable pub table_again : Table → Result Table Refusal
+table_again t = unless_refused (table_fault t) t

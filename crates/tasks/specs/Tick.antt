@@ -1,13 +1,15 @@
 -- One tick (document 01, "One tick"), step by step, and its refusals ("Refusals by cause").
-use Rattle.std.specs.Prelude.{ℕ, ◌-◌, ◌/◌, ◌%◌, ◌^◌, List, Bool, false, ◌&&◌, ◌||◌, get_or, eqb, ltb, leb, ℤ}
+use Rattle.std.specs.Prelude.{ℕ, ◌-◌, ◌/◌, ◌%◌, ◌^◌, List, Bool, false, ◌&&◌, ◌||◌, get_or, eqb, ltb, leb, ℤ, Result, Ok, Err}
 use Rattle.lists.specs.Lists.{eight, pick, count, any}
 use Rattle.jobs.specs.Job.{job_key, job_age, lex}
 use Rattle.tasks.specs.Table.{table_fault}
 use Rattle.tasks.specs.State.{ready, keeps, late, improper}
 use Rattle.tasks.specs.declared.state.State.{State}
 use Rattle.tasks.specs.declared.table.Table.{Table}
-use Rattle.tasks.specs.declared.tick.TickAnswer.{TickAnswer}
-use Rattle.tasks.specs.declared.tick.TickAnswer.TheVariants.{Next, Missed, Refused}
+use Rattle.tasks.specs.Refusals.{refusal_at}
+use Rattle.tasks.specs.declared.refusal.Refusal.{Refusal}
+use Rattle.tasks.specs.declared.tick.Step.{Step}
+use Rattle.tasks.specs.declared.tick.Step.TheVariants.{Next, Missed}
 use Rattle.tasks.specs.declared.tick.Ticked.{Ticked}
 
 -- ---- step 1, the release
@@ -96,12 +98,12 @@ refusal t s mask =
     (pick (illegal t s mask) 11 0))
 
 -- the answer with the state beside it
-abbrev pub answered : TickAnswer → State → Ticked
+abbrev pub answered : Result Step Refusal → State → Ticked
 answered a s = record { answer = a; state = s }
 
 -- a refusal with the state given, or Missed or Next with the state after step 4
 unfoldable pub ticked : Table → State → ℕ → Ticked
 ticked t s mask =
-    pick (ltb 0 (refusal t s mask)) (answered (Refused (refusal t s mask)) s)
-    (pick (missed t (after t s mask)) (answered Missed (after t s mask))
-    (answered Next (after t s mask)))
+    pick (ltb 0 (refusal t s mask)) (answered (Err (refusal_at (refusal t s mask))) s)
+    (pick (missed t (after t s mask)) (answered (Ok Missed) (after t s mask))
+    (answered (Ok Next) (after t s mask)))

@@ -5,6 +5,7 @@ mod copies;
 mod number;
 mod places;
 mod play;
+mod refusal;
 mod sheet;
 mod slack;
 mod state;
@@ -17,17 +18,17 @@ mod writer;
 
 // The public calls: each gives a result within the limits or a listed refusal. `State::tick` is one of them.
 pub use copies::{copy_sheet, copy_table};
-pub use number::{Number, read_number};
+pub use number::read_number;
 pub use play::{Outcome, ReplayAnswer, Replayed, play_on, replay};
-pub use sheet::{Reading, Sheet, read_sheet};
+pub use refusal::Refusal;
+pub use sheet::read_sheet;
 pub use state::State;
 pub use table::Table;
-pub use tick::{TickAnswer, Ticked};
-pub use writer::{Writing, write_sheet};
+pub use tick::{Step, Ticked};
+pub use writer::write_sheet;
 
 // The inner interface, for the layers above: it takes any table, state and words, and refuses nothing. `Table::ticker`, `State::words`,
 // `State::of_words` and the steps of a tick (`State::illegal`, `release`, `choose`, `run` and `missed`) are of it.
-pub use sheet::refused;
 pub use slack::tight;
 pub use state::has_bit;
 pub use ticker::{Prepared, Ticker};

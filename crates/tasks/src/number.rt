@@ -1,41 +1,33 @@
 // Sheet numbers: groups of seven bits, low group first, the top bit of a byte set when another follows.
 ghost use Rattle.std.specs.Prelude.{◌≡◌, ◌+◌, ◌≤◌, ◌<◌, length, set};
 ghost use Rattle.std.proofs.lemmas.List.Edits.{sets};
-ghost use Rattle.tasks.specs.Answers.{number_answer};
 ghost use Rattle.tasks.specs.Number.{number_bytes, number_at};
 
-use crate::widths::wide;
+use crate::refusal::Refusal;
 
-// What stands at a place of a sheet: a number with the place after it, or why there is none.
-#[derive(Clone, Copy)]
-pub enum Number {
-    Value(usize, usize),
-    Refused(u8),
-}
-
-// The number at a place: one or two bytes.
-pub fn read_number(s: &[u8], at: usize) -> Number
-    ensures { number_answer result ≡ number_answer (number_at s.now at) }
+// The number at a place, one or two bytes, and the place after it.
+pub fn read_number(s: &[u8], at: usize) -> Result<(usize, usize), Refusal>
+    ensures { result ≡ number_at s.now at }
 {
     if s.len() <= at {
-        return Number::Refused(1);
+        return Err(Refusal::Incomplete);
     }
-    let low = wide(s[at]);
+    let low = usize::from(s[at]);
     if low < 128 {
-        return Number::Value(low, at + 1);
+        return Ok((low, at + 1));
     }
     let next = at + 1;
     if s.len() <= next {
-        return Number::Refused(1);
+        return Err(Refusal::Incomplete);
     }
-    let high = wide(s[next]);
+    let high = usize::from(s[next]);
     if high < 1 {
-        return Number::Refused(2);
+        return Err(Refusal::SecondByte);
     }
     if high < 128 {
-        return Number::Value(low - 128 + 128 * high, next + 1);
+        return Ok((low - 128 + 128 * high, next + 1));
     }
-    Number::Refused(2)
+    Err(Refusal::SecondByte)
 }
 
 // How many bytes a number takes.

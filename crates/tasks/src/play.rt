@@ -2,28 +2,28 @@
 ghost use Rattle.std.specs.Prelude.{◌≡◌, ◌≤◌, false, length};
 ghost use Rattle.tasks.specs.Table.{table_fault};
 ghost use Rattle.tasks.specs.State.{improper};
-ghost use Rattle.tasks.specs.Answers.{replay_answer};
 ghost use Rattle.tasks.specs.Replay.{played, replayed, played_from, replay_tick};
 
+use crate::refusal::Refusal;
 use crate::state::State;
 use crate::table::Table;
 
 // How a played list ended: kept, or missed at the tick of that number, the first being 1.
-#[derive(Clone, Copy)]
+#[derive(Clone, Copy, Debug, PartialEq, Eq)]
 pub enum Outcome {
     Kept,
     Missed(usize),
 }
 
-// Played, or refused: the refusal's number, and the tick's, which is 0 where the table is refused.
-#[derive(Clone, Copy)]
+// Played, or refused: why, and the tick's number, which is 0 where the table or the state is refused.
+#[derive(Clone, Copy, Debug, PartialEq, Eq)]
 pub enum ReplayAnswer {
     Played(Outcome),
-    Refused(u8, usize),
+    Refused(Refusal, usize),
 }
 
 // The answer, and the state beside it: the last one, the one after the miss, or the one given to the refused tick.
-#[derive(Clone, Copy)]
+#[derive(Clone, Copy, Debug, PartialEq, Eq)]
 pub struct Replayed {
     pub answer: ReplayAnswer,
     pub state: State,
@@ -36,13 +36,10 @@ fn play(t: Table, first: State, masks: &[u8]) -> Replayed
     ensures { result ≡ played t first 0 masks.now }
 {
     let mut s = first;
-    let mut i: usize = 0;
-    while i < masks.len() {
-        let mask = masks[i];
-        i += 1;
+    for (i, &mask) in masks.iter().enumerate() {
         if s.illegal(t, mask) {
             return Replayed {
-                answer: ReplayAnswer::Refused(11, i),
+                answer: ReplayAnswer::Refused(Refusal::Mask, i + 1),
                 state: s,
             };
         }
@@ -51,7 +48,7 @@ fn play(t: Table, first: State, masks: &[u8]) -> Replayed
         let next = released.run(run);
         if next.missed(t) {
             return Replayed {
-                answer: ReplayAnswer::Played(Outcome::Missed(i)),
+                answer: ReplayAnswer::Played(Outcome::Missed(i + 1)),
                 state: next,
             };
         }
@@ -65,18 +62,17 @@ fn play(t: Table, first: State, masks: &[u8]) -> Replayed
 
 // A list played on from a state, for any table and state: 4 to 7 and then 13 are refused before the first tick, with the state given. The first tick is 1.
 pub fn play_on(t: Table, s: State, masks: &[u8]) -> Replayed
-    ensures { (replay_answer result ≡ replay_answer (played_from t s 0 masks.now)) × (result.state ≡ (played_from t s 0 masks.now).state) × (replay_tick result.answer ≤ length masks.now) }
+    ensures { (result ≡ played_from t s 0 masks.now) × (replay_tick result.answer ≤ length masks.now) }
 {
-    let fault = t.fault();
-    if 0 < fault {
+    if let Err(why) = t.check() {
         return Replayed {
-            answer: ReplayAnswer::Refused(fault, 0),
+            answer: ReplayAnswer::Refused(why, 0),
             state: s,
         };
     }
     if s.improper(t) {
         return Replayed {
-            answer: ReplayAnswer::Refused(13, 0),
+            answer: ReplayAnswer::Refused(Refusal::Improper, 0),
             state: s,
         };
     }
@@ -85,7 +81,7 @@ pub fn play_on(t: Table, s: State, masks: &[u8]) -> Replayed
 
 // The replay of a list, for any table: a bad table is refused before the first tick, with the start state.
 pub fn replay(t: Table, masks: &[u8]) -> Replayed
-    ensures { (replay_answer result ≡ replay_answer (replayed t masks.now)) × (result.state ≡ (replayed t masks.now).state) × (replay_tick result.answer ≤ length masks.now) }
+    ensures { (result ≡ replayed t masks.now) × (replay_tick result.answer ≤ length masks.now) }
 {
     let start = State::start();
     play_on(t, start, masks)

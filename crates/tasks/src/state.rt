@@ -8,7 +8,7 @@ use crate::table::Table;
 use crate::widths::either;
 
 // For each of eight tasks: the work left c, and the ticks p until it may be released again.
-#[derive(Clone, Copy)]
+#[derive(Clone, Copy, Debug, PartialEq, Eq)]
 pub struct State {
     pub c: [u8; 8],
     pub p: [u8; 8],

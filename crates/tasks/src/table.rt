@@ -1,15 +1,17 @@
 // The task table by value, and its faults.
 ghost use Rattle.std.specs.Prelude.{◌≡◌, ◌<◌};
 ghost use Rattle.lists.specs.Lists.{any};
+ghost use Rattle.tasks.specs.Refusals.{unless_refused};
 ghost use Rattle.tasks.specs.Table.{outside, breaks, fault_at, table_fault};
 
+use crate::refusal::Refusal;
 use crate::widths::wide;
 
 // The last policy.
 pub(crate) const LAST_POLICY: usize = 4;
 
 // A table in memory: policy, processors, tasks, and for each of eight tasks its work C, deadline D and least gap P.
-#[derive(Clone, Copy)]
+#[derive(Clone, Copy, Debug, PartialEq, Eq)]
 pub struct Table {
     pub policy: u8,
     pub m: u8,
@@ -61,25 +63,25 @@ impl Table {
         found
     }
 
-    // The refusal of the table, 4 to 7, and 0 for a valid one.
-    pub fn fault(self) -> u8
-        ensures { result ≡ table_fault self }
+    // Whether the table is valid, or the first of 4 to 7 that applies.
+    pub fn check(self) -> Result<(), Refusal>
+        ensures { result ≡ unless_refused (table_fault self) tt }
     {
-        let policy = wide(self.policy);
+        let policy = usize::from(self.policy);
         let m = outside(self.m);
         let n = outside(self.n);
         if LAST_POLICY < policy {
-            return 4;
+            return Err(Refusal::Policy);
         }
         if m {
-            return 5;
+            return Err(Refusal::Processors);
         }
         if n {
-            return 6;
+            return Err(Refusal::TaskCount);
         }
         if self.any_fault() {
-            return 7;
+            return Err(Refusal::Task);
         }
-        0
+        Ok(())
     }
 }

@@ -1,27 +1,28 @@
 // One tick: its refusals, and the state after it.
 ghost use Rattle.std.specs.Prelude.{◌≡◌};
-ghost use Rattle.tasks.specs.Answers.{tick_answer};
+ghost use Rattle.tasks.specs.Refusals.{unless_refused};
 ghost use Rattle.tasks.specs.Tick.{after, refusal, answered, ticked};
 
+use crate::refusal::Refusal;
 use crate::state::State;
 use crate::table::Table;
 
-// The answer of a tick; the state travels beside it.
-#[derive(Clone, Copy)]
-pub enum TickAnswer {
+// What a tick that is not refused comes to.
+#[derive(Clone, Copy, Debug, PartialEq, Eq)]
+pub enum Step {
     Next,
     Missed,
-    Refused(u8),
 }
 
-#[derive(Clone, Copy)]
+// The answer of a tick, and the state beside it: the one after it, or the one given to a tick that is refused.
+#[derive(Clone, Copy, Debug, PartialEq, Eq)]
 pub struct Ticked {
-    pub answer: TickAnswer,
+    pub answer: Result<Step, Refusal>,
     pub state: State,
 }
 
 // The answer with the state beside it.
-fn answered(answer: TickAnswer, state: State) -> Ticked
+fn answered(answer: Result<Step, Refusal>, state: State) -> Ticked
     ensures { result ≡ answered answer state }
 {
     Ticked { answer, state }
@@ -37,35 +38,31 @@ impl State {
         released.run(run)
     }
 
-    // Why a tick is refused: the first of 4 to 7, 13 and 11 that applies, and 0 where none does.
-    fn refusal(self, t: Table, mask: u8) -> u8
-        ensures { result ≡ refusal t self mask }
+    // Whether a tick may be made, or the first of 4 to 7, 13 and 11 that applies.
+    fn check(self, t: Table, mask: u8) -> Result<(), Refusal>
+        ensures { result ≡ unless_refused (refusal t self mask) tt }
     {
-        let fault = t.fault();
-        if 0 < fault {
-            return fault;
-        }
+        t.check()?;
         if self.improper(t) {
-            return 13;
+            return Err(Refusal::Improper);
         }
         if self.illegal(t, mask) {
-            return 11;
+            return Err(Refusal::Mask);
         }
-        0
+        Ok(())
     }
 
     // One tick: a refusal with the state given, or Missed or Next with the state after it.
     pub fn tick(self, t: Table, mask: u8) -> Ticked
-        ensures { (tick_answer result ≡ tick_answer (ticked t self mask)) × (result.state ≡ (ticked t self mask).state) }
+        ensures { result ≡ ticked t self mask }
     {
-        let why = self.refusal(t, mask);
-        if 0 < why {
-            return answered(TickAnswer::Refused(why), self);
+        if let Err(why) = self.check(t, mask) {
+            return answered(Err(why), self);
         }
         let next = self.advance(t, mask);
         if next.missed(t) {
-            return answered(TickAnswer::Missed, next);
+            return answered(Ok(Step::Missed), next);
         }
-        answered(TickAnswer::Next, next)
+        answered(Ok(Step::Next), next)
     }
 }

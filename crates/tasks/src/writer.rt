@@ -5,14 +5,8 @@ ghost use Rattle.tasks.specs.Answers.{writing_answer};
 ghost use Rattle.tasks.specs.Sheet.{task_bytes, tasks_bytes, sheet_bytes, write_answer, write_out};
 
 use crate::number::{number_len, put_number};
+use crate::refusal::Refusal;
 use crate::table::Table;
-
-// What writing a sheet answers: its length, or why it is not written.
-#[derive(Clone, Copy)]
-pub enum Writing {
-    Written(usize),
-    Refused(u8),
-}
 
 fn task_len(t: Table, i: usize) -> usize
     requires { i < 8 }
@@ -25,12 +19,9 @@ fn tasks_len(t: Table) -> usize
     requires { t.n ≤ 8 }
     ensures { (result ≡ length (tasks_bytes t t.n 0)) × (result ≤ 48) }
 {
-    let n = t.n as usize;
     let mut total: usize = 0;
-    let mut i: usize = 0;
-    while i < n {
+    for i in 0..usize::from(t.n) {
         total += task_len(t, i);
-        i += 1;
     }
     total
 }
@@ -56,12 +47,9 @@ fn put_tasks(out: &mut [u8], from: usize, t: Table)
     requires { (t.n ≤ 8) × (from + length (tasks_bytes t t.n 0) ≤ length out.old) }
     ensures { out.new ≡ sets out.old from (tasks_bytes t t.n 0) }
 {
-    let n = t.n as usize;
     let mut at = from;
-    let mut i: usize = 0;
-    while i < n {
+    for i in 0..usize::from(t.n) {
         at = put_task(out, at, t, i);
-        i += 1;
     }
 }
 
@@ -76,18 +64,15 @@ fn put_sheet(out: &mut [u8], t: Table)
     put_tasks(out, d, t);
 }
 
-// Writes the sheet of a table to the front of the output.
-pub fn write_sheet(t: Table, out: &mut [u8]) -> Writing
+// Writes the sheet of a table to the front of the output, and answers its length.
+pub fn write_sheet(t: Table, out: &mut [u8]) -> Result<usize, Refusal>
     ensures { (writing_answer result ≡ write_answer t out.old) × (out.new ≡ write_out t out.old) }
 {
-    let fault = t.fault();
-    if 0 < fault {
-        return Writing::Refused(fault);
-    }
+    t.check()?;
     let n = sheet_len(t);
     if out.len() < n {
-        return Writing::Refused(12);
+        return Err(Refusal::ShortOutput);
     }
     put_sheet(out, t);
-    Writing::Written(n)
+    Ok(n)
 }

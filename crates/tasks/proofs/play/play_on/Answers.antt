@@ -1,29 +1,30 @@
 -- By what is judged first. Assumes nothing.
-use mathlib.Core.Path.{◌≡◌, sym, ◌∙◌}
+use mathlib.Core.Path.{sym, ap, ◌∙◌}
 use Rattle.tasks.specs.Table.{table_fault}
+use Rattle.tasks.specs.declared.play.ReplayAnswer.TheVariants.{Refused}
+use Rattle.tasks.proofs.Refusals.{refused_unless, accepted_unless}
 use Rattle.tasks.proofs.Played.{from_names, from_fault, from_improper, from_played}
-use native.Mathlib.Omega.{arith}
 use Rattle.tasks.proofs.play.play_on.Goals as goal
 
-pub returns-then-fault-gt0 : goal.returns-then-fault-gt0
-returns-then-fault-gt0 c =
+pub returns-in-Err : goal.returns-in-Err
+returns-in-Err c =
     let a = c.args in
-    let e = c.fault-fault.ensures in
-    from_names a.t a.s a.masks.now (rw e (from_fault a.t a.s 0 a.masks.now (rw e at c.if-fault-gt0.true)))
+    let f = refused_unless (table_fault a.t) tt (sym c.check.ensures ∙ c.in-Err.is) in
+    from_names a.t a.s a.masks.now (ap (λ r. record { answer = Refused r 0; state = a.s }) (sym f.1) ∙ from_fault a.t a.s 0 a.masks.now f.0)
 
 pub returns-then-improper : goal.returns-then-improper
 returns-then-improper c =
     let a = c.args in
-    let valid : table_fault a.t ≡ 0 = omega (arith, c.if-fault-gt0.false, c.fault-fault.ensures) in
+    let valid = (accepted_unless (table_fault a.t) tt (sym c.check.ensures ∙ c.in_default.is)).0 in
     from_names a.t a.s a.masks.now (from_improper a.t a.s 0 a.masks.now valid (sym c.improper.ensures ∙ c.if-improper.true))
 
 pub play-requires : goal.play-requires
 play-requires c =
-    (omega (arith, c.if-fault-gt0.false, c.fault-fault.ensures), sym c.improper.ensures ∙ c.if-improper.false)
+    ((accepted_unless (table_fault c.args.t) tt (sym c.check.ensures ∙ c.in_default.is)).0, sym c.improper.ensures ∙ c.if-improper.false)
 
 pub returns : goal.returns
 returns c =
     let a = c.args in
-    let valid : table_fault a.t ≡ 0 = omega (arith, c.if-fault-gt0.false, c.fault-fault.ensures) in
+    let valid = (accepted_unless (table_fault a.t) tt (sym c.check.ensures ∙ c.in_default.is)).0 in
     from_names a.t a.s a.masks.now
     (c.play.ensures ∙ from_played a.t a.s 0 a.masks.now valid (sym c.improper.ensures ∙ c.if-improper.false))

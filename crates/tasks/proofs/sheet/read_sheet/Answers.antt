@@ -1,13 +1,13 @@
 -- The field count is refused, or the policy is read next. Assumes nothing.
+use Rattle.std.proofs.Common.{rules}
 use Rattle.tasks.specs.Sheet.{sheet_of}
-use Rattle.tasks.proofs.Answers.{sheet_told}
 use mathlib.Core.Path.{sym, ◌∙◌}
 use Rattle.tasks.proofs.sheet.read_sheet.Goals as goal
 
-pub returns-in-Refused : goal.returns-in-Refused
+pub returns-in_err-next : goal.returns-in_err-next
 unfolding sheet_of
-returns-in-Refused c = let e = sym c.read_field.ensures ∙ c.in-Refused.is in sheet_told (rw e c.refused.ensures)
+returns-in_err-next c = let e = sym c.read_field.ensures ∙ c.in_err-next.was in rw e (search rules)
 
-pub returns-in-Value : goal.returns-in-Value
+pub returns : goal.returns
 unfolding sheet_of
-returns-in-Value c = let e = sym c.read_field.ensures ∙ c.in-Value.is in sheet_told (rw e c.read_header.ensures)
+returns c = let e = sym c.read_field.ensures ∙ c.in_ok-next.was in rw e c.read_header.ensures

@@ -7,7 +7,4 @@ use Rattle.tasks.proofs.writer.tasks_len.Given as goal
 
 abbrev pub invariant-loop-i : goal.invariant-loop-i
 invariant-loop-i l =
-    (l.i ≤ l.n) × (l.n ≤ 8) × (l.total ≤ 6 * l.i) × (length (tasks_bytes l.t l.n 0) ≡ l.total + length (tasks_bytes l.t (l.n - l.i) l.i))
-
-abbrev pub decreases-loop-i : goal.decreases-loop-i
-decreases-loop-i l = l.n - l.i
+    (l.total ≤ 6 * l.i) × (length (tasks_bytes l.t l.t.n 0) ≡ l.total + length (tasks_bytes l.t (l.t.n - l.i) l.i))
