@@ -49,20 +49,17 @@ fn count_before(places: [u16; 8], i: usize) -> u16
     u16::from(lists::count_places(|k| sooner(places[k], k, x, i)))
 }
 
-// The rank of task j, with task i counted too: one more where task i goes before it.
-fn count_one(ranks: [u16; 8], places: [u16; 8], i: usize, j: usize) -> u16
-    requires { (i < 8) × (j < 8) × (ranks ≡ eight (rank places i)) }
-    ensures { result ≡ rank places (i + 1) j }
-{
-    ranks[j] + u16::from(sooner(places[i], i, places[j], j))
-}
-
-// The ranks of all tasks, with task i counted too.
+// The ranks of all tasks, with task i counted too: one more for each task that it goes before.
 fn count_place(ranks: [u16; 8], places: [u16; 8], i: usize) -> [u16; 8]
     requires { (i < 8) × (ranks ≡ eight (rank places i)) }
     ensures { result ≡ eight (rank places (i + 1)) }
 {
-    array::from_fn(|j| count_one(ranks, places, i, j))
+    let y = places[i];
+    let mut out = [0u16; 8];
+    for j in 0..8 {
+        out[j] = ranks[j] + u16::from(sooner(y, i, places[j], j));
+    }
+    out
 }
 
 // For each task, how many go before it.
