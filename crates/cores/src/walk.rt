@@ -86,7 +86,11 @@ fn ranks_singly(places: [u16; 8]) -> [u16; 8]
 fn with_rank(ranks: [u16; 8], run: [u16; 8], rank: u16) -> [u16; 8]
     ensures { result ≡ eight (λ i. pick (eqb (get_or ranks i 0) rank && eqb (get_or run i 0) 0) 1 (get_or run i 0)) }
 {
-    array::from_fn(|i| if (ranks[i] == rank) & (run[i] == 0) { 1 } else { run[i] })
+    array::from_fn(|i| if (ranks[i] == rank) & (run[i] == 0) {
+        1
+    } else {
+        run[i]
+    })
 }
 
 // The start of a walk: the jobs that keep their processors, and their number.
