@@ -3,8 +3,10 @@ ghost use Rattle.std.specs.Prelude.{◌≡◌, ◌+◌, ◌<◌, ◌≤◌, get_
 ghost use Rattle.lists.specs.Lists.{eight, pick, count};
 ghost use Rattle.cores.specs.Walk.{under, capped, sooner, rank, kept_count, ready_count, served, Walked};
 
+use std::array;
+
 // A walk on its way: 1 for each task that has been given a processor and 0 for the others, and how many have been given out.
-#[derive(Clone, Copy)]
+#[derive(Clone, Copy, Debug, PartialEq, Eq)]
 struct Walk {
     run: [u16; 8],
     count: u16,
@@ -14,26 +16,14 @@ struct Walk {
 fn count_below(places: [u16; 8], x: u16) -> u16
     ensures { (result ≡ count 8 (under places x)) × (result ≤ 8) }
 {
-    let mut n: u16 = 0;
-    let mut i: usize = 0;
-    while i < 8 {
-        n += (places[i] < x) as u16;
-        i += 1;
-    }
-    n
+    u16::from(lists::count_places(|i| places[i] < x))
 }
 
 // 1 for each place below x, and 0 for the others.
 fn below(places: [u16; 8], x: u16) -> [u16; 8]
     ensures { result ≡ eight (λ i. pick (under places x i) 1 0) }
 {
-    let mut out = [0u16; 8];
-    let mut i: usize = 0;
-    while i < 8 {
-        out[i] = (places[i] < x) as u16;
-        i += 1;
-    }
-    out
+    array::from_fn(|i| u16::from(places[i] < x))
 }
 
 // One more than a place, of which those from 65534 on are alike.
@@ -47,7 +37,7 @@ fn above(place: u16) -> u16
 fn sooner(y: u16, k: usize, x: u16, i: usize) -> bool
     ensures { result ≡ sooner y k x i }
 {
-    above(y) - ((k < i) as u16) < above(x)
+    above(y) - u16::from(k < i) < above(x)
 }
 
 // How many tasks go before task i.
@@ -56,13 +46,7 @@ fn count_before(places: [u16; 8], i: usize) -> u16
     ensures { (result ≡ rank places 8 i) × (result ≤ 8) }
 {
     let x = places[i];
-    let mut n: u16 = 0;
-    let mut k: usize = 0;
-    while k < 8 {
-        n += sooner(places[k], k, x, i) as u16;
-        k += 1;
-    }
-    n
+    u16::from(lists::count_places(|k| sooner(places[k], k, x, i)))
 }
 
 // The ranks of all tasks, with task i counted too: one more for each task that it goes before.
@@ -72,10 +56,8 @@ fn count_place(ranks: [u16; 8], places: [u16; 8], i: usize) -> [u16; 8]
 {
     let y = places[i];
     let mut out = [0u16; 8];
-    let mut j: usize = 0;
-    while j < 8 {
-        out[j] = ranks[j] + (sooner(y, i, places[j], j) as u16);
-        j += 1;
+    for j in 0..8 {
+        out[j] = ranks[j] + u16::from(sooner(y, i, places[j], j));
     }
     out
 }
@@ -85,11 +67,9 @@ fn ranks(places: [u16; 8]) -> [u16; 8]
     ensures { result ≡ eight (rank places 8) }
 {
     let mut ranks = [0u16; 8];
-    let mut i: usize = 0;
-    while i < 8 {
+    for i in 0..8 {
         let more = count_place(ranks, places, i);
         ranks = more;
-        i += 1;
     }
     ranks
 }
@@ -98,20 +78,7 @@ fn ranks(places: [u16; 8]) -> [u16; 8]
 fn ranks_singly(places: [u16; 8]) -> [u16; 8]
     ensures { result ≡ eight (rank places 8) }
 {
-    let mut out = [0u16; 8];
-    let mut i: usize = 0;
-    while i < 8 {
-        out[i] = count_before(places, i);
-        i += 1;
-    }
-    out
-}
-
-// 1 where the task is given a processor now, else what it was.
-fn given(now: bool, run: u16) -> u16
-    ensures { result ≡ pick now 1 run }
-{
-    if now { 1 } else { run }
+    array::from_fn(|i| count_before(places, i))
 }
 
 // The tasks chosen, and with them those of the rank that have no processor yet. Without that question the compiler makes vectors of several
@@ -119,13 +86,11 @@ fn given(now: bool, run: u16) -> u16
 fn with_rank(ranks: [u16; 8], run: [u16; 8], rank: u16) -> [u16; 8]
     ensures { result ≡ eight (λ i. pick (eqb (get_or ranks i 0) rank && eqb (get_or run i 0) 0) 1 (get_or run i 0)) }
 {
-    let mut out = [0u16; 8];
-    let mut i: usize = 0;
-    while i < 8 {
-        out[i] = given((ranks[i] == rank) & (run[i] == 0), run[i]);
-        i += 1;
-    }
-    out
+    array::from_fn(|i| if (ranks[i] == rank) & (run[i] == 0) {
+        1
+    } else {
+        run[i]
+    })
 }
 
 // The start of a walk: the jobs that keep their processors, and their number.
@@ -143,11 +108,9 @@ fn assign_next(places: [u16; 8], ranks: [u16; 8], m: u16, walk: Walk) -> Walk
     requires { (ranks ≡ eight (rank places 8)) × Walked places m walk.run walk.count × (walk.count < m) × (walk.count < ready_count places) }
     ensures { Walked places m result.run result.count × (result.count ≡ walk.count + 1) }
 {
-    let run = walk.run;
-    let count = walk.count;
     Walk {
-        run: with_rank(ranks, run, count),
-        count: count + 1,
+        run: with_rank(ranks, walk.run, walk.count),
+        count: walk.count + 1,
     }
 }
 
@@ -156,10 +119,9 @@ fn assign_rest(places: [u16; 8], m: u16, waiting: u16, walk: Walk) -> Walk
     requires { (walk.count + waiting ≡ ready_count places) × (walk.count + waiting ≤ m) }
     ensures { Walked places m result.run result.count × (result.count ≡ walk.count + waiting) }
 {
-    let count = walk.count;
     Walk {
         run: below(places, 65534),
-        count: count + waiting,
+        count: walk.count + waiting,
     }
 }
 
@@ -171,8 +133,7 @@ pub fn assign(places: [u16; 8], m: u16) -> [u16; 8]
     let ready = count_below(places, 65534);
     let mut walk = assign_kept(places, m);
     while (walk.count < m) & (walk.count < ready) {
-        let next = assign_next(places, ranks, m, walk);
-        walk = next;
+        walk = assign_next(places, ranks, m, walk);
     }
     walk.run
 }
@@ -186,14 +147,12 @@ pub fn assign_quickly(places: [u16; 8], m: u16) -> [u16; 8]
     let count = start.count;
     let waiting = count_below(places, 65534) - count;
     if count + waiting <= m {
-        let all = assign_rest(places, m, waiting, start);
-        return all.run;
+        return assign_rest(places, m, waiting, start).run;
     }
     let ranks = ranks(places);
     let mut walk = start;
     while walk.count < m {
-        let next = assign_next(places, ranks, m, walk);
-        walk = next;
+        walk = assign_next(places, ranks, m, walk);
     }
     walk.run
 }

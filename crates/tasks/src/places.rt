@@ -2,11 +2,10 @@
 ghost use Rattle.std.specs.Prelude.{◌≡◌, ◌+◌, ◌<◌};
 ghost use Rattle.lists.specs.Lists.{eight};
 ghost use Rattle.tasks.specs.Tick.{key, age, chosen};
-ghost use Rattle.tasks.specs.Places.{place, earlier_in};
+ghost use Rattle.tasks.specs.Places.{place, earlier, earlier_in};
 
 use crate::state::State;
 use crate::table::Table;
-use crate::widths::wide16;
 use std::array;
 
 // For each task, how many of the first j go before it, with task j counted too.
@@ -15,10 +14,8 @@ fn count_job(counts: [u16; 8], keys: [i16; 8], ages: [i16; 8], j: usize) -> [u16
     ensures { result ≡ eight (earlier_in keys ages (j + 1)) }
 {
     let mut out = [0u16; 8];
-    let mut i: usize = 0;
-    while i < 8 {
-        out[i] = counts[i] + (jobs::goes_before(keys[j], ages[j], j, keys[i], ages[i], i) as u16);
-        i += 1;
+    for i in 0..8 {
+        out[i] = counts[i] + u16::from(jobs::goes_before(keys[j], ages[j], j, keys[i], ages[i], i));
     }
     out
 }
@@ -28,11 +25,9 @@ fn count_earlier(keys: [i16; 8], ages: [i16; 8]) -> [u16; 8]
     ensures { result ≡ eight (earlier_in keys ages 8) }
 {
     let mut counts = [0u16; 8];
-    let mut j: usize = 0;
-    while j < 8 {
+    for j in 0..8 {
         let more = count_job(counts, keys, ages, j);
         counts = more;
-        j += 1;
     }
     counts
 }
@@ -63,42 +58,36 @@ impl State {
     fn ages(self, t: Table) -> [i16; 8]
         ensures { result ≡ eight (age t self) }
     {
-        let mut ages = [0i16; 8];
-        let mut i: usize = 0;
-        while i < 8 {
-            ages[i] = self.age(t, i);
-            i += 1;
-        }
-        ages
+        array::from_fn(|i| self.age(t, i))
+    }
+
+    // For each task, how many go before it.
+    fn earlier(self, t: Table) -> [u16; 8]
+        ensures { result ≡ eight (earlier t self) }
+    {
+        count_earlier(self.keys(t), self.ages(t))
+    }
+
+    // The place of task i, by how many go before each.
+    fn place(self, t: Table, counts: [u16; 8], i: usize) -> u16
+        requires { (i < 8) × (counts ≡ eight (earlier t self)) }
+        ensures { result ≡ place t self i }
+    {
+        jobs::place_of(0 < self.c[i], self.keeps(t, i), counts[i])
     }
 
     fn places(self, t: Table) -> [u16; 8]
         ensures { result ≡ eight (place t self) }
     {
-        let keys = self.keys(t);
-        let ages = self.ages(t);
-        let earlier = count_earlier(keys, ages);
-        let mut places = [0u16; 8];
-        let mut i: usize = 0;
-        while i < 8 {
-            let c = self.c[i];
-            places[i] = jobs::place_of(0 < c, self.keeps(t, i), earlier[i]);
-            i += 1;
-        }
-        places
+        let counts = self.earlier(t);
+        array::from_fn(|i| self.place(t, counts, i))
     }
 
     // Steps 2 and 3 of a tick: which tasks run, by a walk that gives out the processors.
     pub fn choose(self, t: Table) -> [bool; 8]
         ensures { result ≡ chosen t self }
     {
-        let given = cores::assign(self.places(t), wide16(t.m));
-        let mut run = [false; 8];
-        let mut i: usize = 0;
-        while i < 8 {
-            run[i] = 0 < given[i];
-            i += 1;
-        }
-        run
+        let given = cores::assign(self.places(t), u16::from(t.m));
+        array::from_fn(|i| 0 < given[i])
     }
 }

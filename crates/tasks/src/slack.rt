@@ -18,15 +18,10 @@ fn tight_job(deadline: u8, gap: u8, p: u8, c: u8) -> bool
 pub fn tight(t: Table, v: [u16; 8]) -> bool
     ensures { result ≡ tight t (state_of v) }
 {
-    let mut found = false;
-    let mut i: usize = 0;
-    while i < 8 {
+    lists::any_place(|i| {
         let p = gap_in(v[i]);
         let has = tight_job(t.deadline[i], t.gap[i], p, work_in(v[i]));
         let new = tight_job(t.deadline[i], t.gap[i], t.gap[i], t.work[i]);
-        let some = has | ((p == 0) & new);
-        found = found | some;
-        i += 1;
-    }
-    found
+        has | ((p == 0) & new)
+    })
 }

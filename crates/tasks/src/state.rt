@@ -5,7 +5,7 @@ ghost use Rattle.tasks.specs.State.{start, started, keeps, late, improper_at, im
 ghost use Rattle.tasks.specs.Tick.{bit, released, ran, missed, illegal_at, illegal};
 
 use crate::table::Table;
-use crate::widths::either;
+use std::array;
 
 // For each of eight tasks: the work left c, and the ticks p until it may be released again.
 #[derive(Clone, Copy, Debug, PartialEq, Eq)]
@@ -20,13 +20,6 @@ pub fn has_bit(mask: u8, i: usize) -> bool
     ensures { result ≡ bit mask i }
 {
     (mask >> i) % 2 == 1
-}
-
-// One less, and 0 for 0.
-fn down(x: u8) -> u8
-    ensures { result ≡ x - 1 }
-{
-    if 0 < x { x - 1 } else { 0 }
 }
 
 impl State {
@@ -44,31 +37,20 @@ impl State {
     pub fn release(self, t: Table, mask: u8) -> State
         ensures { result ≡ released t self mask }
     {
-        let mut c = [0u8; 8];
-        let mut p = [0u8; 8];
-        let mut i: usize = 0;
-        while i < 8 {
-            let set = has_bit(mask, i);
-            c[i] = either(set, t.work[i], self.c[i]);
-            p[i] = either(set, t.gap[i], self.p[i]);
-            i += 1;
+        State {
+            c: array::from_fn(|i| if has_bit(mask, i) { t.work[i] } else { self.c[i] }),
+            p: array::from_fn(|i| if has_bit(mask, i) { t.gap[i] } else { self.p[i] }),
         }
-        State { c, p }
     }
 
     // Step 4 of a tick, where the tasks of `run` run: their c falls by 1, and every p above 0 does.
     pub fn run(self, run: [bool; 8]) -> State
         ensures { result ≡ ran self run }
     {
-        let mut c = [0u8; 8];
-        let mut p = [0u8; 8];
-        let mut i: usize = 0;
-        while i < 8 {
-            c[i] = either(run[i], down(self.c[i]), self.c[i]);
-            p[i] = down(self.p[i]);
-            i += 1;
+        State {
+            c: array::from_fn(|i| if run[i] { self.c[i].saturating_sub(1) } else { self.c[i] }),
+            p: array::from_fn(|i| self.p[i].saturating_sub(1)),
         }
-        State { c, p }
     }
 
     // Whether the job of task i is late.
@@ -109,13 +91,7 @@ impl State {
     fn count_kept(self, t: Table) -> u8
         ensures { result ≡ count 8 (keeps t self) }
     {
-        let mut n: u8 = 0;
-        let mut i: usize = 0;
-        while i < 8 {
-            n += self.keeps(t, i) as u8;
-            i += 1;
-        }
-        n
+        lists::count_places(|i| self.keeps(t, i))
     }
 
     // Whether task i is not proper.
@@ -127,20 +103,14 @@ impl State {
         let p = self.p[i];
         let work = t.work[i];
         let gap = t.gap[i];
-        let n = t.n as usize;
+        let n = usize::from(t.n);
         (work < c) | (gap < p) | self.late(t, i) | ((n <= i) & ((0 < c) | (0 < p)))
     }
 
     fn any_improper(self, t: Table) -> bool
         ensures { result ≡ any 8 (improper_at t self) }
     {
-        let mut found = false;
-        let mut i: usize = 0;
-        while i < 8 {
-            found = found | self.improper_at(t, i);
-            i += 1;
-        }
-        found
+        lists::any_place(|i| self.improper_at(t, i))
     }
 
     // Whether the state is not proper.
@@ -156,7 +126,7 @@ impl State {
         ensures { result ≡ illegal_at t self mask i }
     {
         let p = self.p[i];
-        let n = t.n as usize;
+        let n = usize::from(t.n);
         has_bit(mask, i) & ((n <= i) | (0 < p))
     }
 
@@ -164,12 +134,6 @@ impl State {
     pub fn illegal(self, t: Table, mask: u8) -> bool
         ensures { result ≡ illegal t self mask }
     {
-        let mut found = false;
-        let mut i: usize = 0;
-        while i < 8 {
-            found = found | self.illegal_at(t, mask, i);
-            i += 1;
-        }
-        found
+        lists::any_place(|i| self.illegal_at(t, mask, i))
     }
 }

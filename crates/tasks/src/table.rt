@@ -41,10 +41,10 @@ impl Table {
         requires { i < 8 }
         ensures { result ≡ fault_at self i }
     {
-        let work = wide(self.work[i]);
-        let deadline = wide(self.deadline[i]);
-        let gap = wide(self.gap[i]);
-        let n = self.n as usize;
+        let work = usize::from(self.work[i]);
+        let deadline = usize::from(self.deadline[i]);
+        let gap = usize::from(self.gap[i]);
+        let n = usize::from(self.n);
         if i < n {
             return breaks(work, deadline, gap);
         }
@@ -54,13 +54,7 @@ impl Table {
     fn any_fault(self) -> bool
         ensures { result ≡ any 8 (fault_at self) }
     {
-        let mut found = false;
-        let mut i: usize = 0;
-        while i < 8 {
-            found = found | self.fault_at(i);
-            i += 1;
-        }
-        found
+        lists::any_place(|i| self.fault_at(i))
     }
 
     // Whether the table is valid, or the first of 4 to 7 that applies.

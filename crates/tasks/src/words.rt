@@ -5,7 +5,7 @@ ghost use Rattle.tasks.specs.Words.{words_of, state_of};
 
 use crate::state::State;
 use crate::table::Table;
-use crate::widths::wide16;
+use std::array;
 
 // The work left in a word.
 pub fn work_in(w: u16) -> u8
@@ -26,28 +26,17 @@ impl State {
     pub fn words(self) -> [u16; 8]
         ensures { result ≡ words_of self }
     {
-        let mut out = [0u16; 8];
-        let mut i: usize = 0;
-        while i < 8 {
-            out[i] = wide16(self.c[i]) + 256 * wide16(self.p[i]);
-            i += 1;
-        }
-        out
+        array::from_fn(|i| u16::from(self.c[i]) + 256 * u16::from(self.p[i]))
     }
 
     // The state of eight words.
     pub fn of_words(v: [u16; 8]) -> State
         ensures { result ≡ state_of v }
     {
-        let mut c = [0u8; 8];
-        let mut p = [0u8; 8];
-        let mut i: usize = 0;
-        while i < 8 {
-            c[i] = work_in(v[i]);
-            p[i] = gap_in(v[i]);
-            i += 1;
+        State {
+            c: array::from_fn(|i| work_in(v[i])),
+            p: array::from_fn(|i| gap_in(v[i])),
         }
-        State { c, p }
     }
 }
 
@@ -55,12 +44,5 @@ impl State {
 pub fn misses(t: Table, v: [u16; 8]) -> bool
     ensures { result ≡ missed t (state_of v) }
 {
-    let mut found = false;
-    let mut i: usize = 0;
-    while i < 8 {
-        let c = work_in(v[i]);
-        found = found | jobs::late_job(t.deadline[i], t.gap[i], gap_in(v[i]), c);
-        i += 1;
-    }
-    found
+    lists::any_place(|i| jobs::late_job(t.deadline[i], t.gap[i], gap_in(v[i]), work_in(v[i])))
 }

@@ -11,8 +11,8 @@ pub loop-walk-init : goal.loop-walk-init
 unfolding ready_count
 loop-walk-init c = (c.assign_kept-walk.ensures.0, c.count_below-ready.ensures.0, c.ranks_singly-ranks.ensures)
 
-pub assign_next-next-requires : goal.assign_next-next-requires
-assign_next-next-requires c =
+pub assign_next-walk-requires : goal.assign_next-walk-requires
+assign_next-walk-requires c =
     let l = c.loop-walk in
     let a = c.args in
     let go = rw l.invariant.1 at c.loop-walk-test.true in
@@ -26,12 +26,12 @@ loop-walk-smaller c =
     let a = c.args in
     let go = rw l.invariant.1 at c.loop-walk-test.true in
     let some : l.walk.count < a.m = ltb-true l.walk.count a.m (and_left (ltb l.walk.count a.m) (ltb l.walk.count (ready_count a.places)) go) in
-    omega (arith, some, c.assign_next-next.ensures.1)
+    omega (arith, some, c.assign_next-walk.ensures.1)
 
 pub loop-walk-preserved : goal.loop-walk-preserved
 loop-walk-preserved c =
     let l = c.loop-walk in
-    (c.assign_next-next.ensures.0, l.invariant.1, l.invariant.2)
+    (c.assign_next-walk.ensures.0, l.invariant.1, l.invariant.2)
 
 pub returns : goal.returns
 returns c =

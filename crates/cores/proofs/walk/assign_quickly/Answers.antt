@@ -9,15 +9,15 @@ pub overflow_sub-waiting : goal.overflow_sub-waiting
 unfolding ready_count
 overflow_sub-waiting c = omega (arith, kept_ready c.args.places, c.assign_kept-start.ensures.1, c.count_below.ensures.0)
 
-pub assign_rest-all-requires : goal.assign_rest-all-requires
+pub assign_rest-requires : goal.assign_rest-requires
 unfolding ready_count
-assign_rest-all-requires c =
+assign_rest-requires c =
     (omega (arith, kept_ready c.args.places, c.assign_kept-start.ensures.1, c.count_below.ensures.0), search rules)
 
 pub returns-then-count-waiting : goal.returns-then-count-waiting
 unfolding ready_count
 returns-then-count-waiting c =
-    let rest = c.assign_rest-all in
+    let rest = c.assign_rest in
     walk_all _ _ rest.ensures.0 (omega (arith, kept_ready c.args.places, c.assign_kept-start.ensures.1, c.count_below.ensures.0, rest.ensures.1)) (omega (arith, rest.ensures.1))
 
 pub loop-walk-init : goal.loop-walk-init
@@ -28,15 +28,15 @@ loop-walk-init c = (
   c.ranks-ranks.ensures,
 )
 
-pub assign_next-next-requires : goal.assign_next-next-requires
-assign_next-next-requires c =
+pub assign_next-walk-requires : goal.assign_next-walk-requires
+assign_next-walk-requires c =
     let l = c.loop-walk in
     (l.invariant.2, l.invariant.0, omega (arith, c.loop-walk-test.true), omega (arith, c.loop-walk-test.true, l.invariant.1))
 
 pub loop-walk-preserved : goal.loop-walk-preserved
 loop-walk-preserved c =
     let l = c.loop-walk in
-    (c.assign_next-next.ensures.0, l.invariant.1, l.invariant.2)
+    (c.assign_next-walk.ensures.0, l.invariant.1, l.invariant.2)
 
 pub returns : goal.returns
 returns c = walk_full _ _ c.loop-walk.invariant.0 (omega (arith, c.loop-walk-test.false))

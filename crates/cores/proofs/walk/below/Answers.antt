@@ -1,20 +1,9 @@
-use mathlib.Core.Path.{refl}
-use lib.Dec.{ltb}
-use lib.ListN.{get_or}
-use Rattle.lists.proofs.Fill.{filled_start, filled_store, filled_end}
-use Rattle.lists.proofs.Turns.{bool_byte_lem}
+use Rattle.std.proofs.Common.{rules}
+use Rattle.lists.specs.Lists.{pick}
+use Rattle.lists.proofs.Made.{made}
 use Rattle.cores.specs.Walk.{under}
-use native.Mathlib.Omega.{arith}
 use Rattle.cores.proofs.walk.below.Goals as goal
 
-pub loop-i-init : goal.loop-i-init
-loop-i-init c = (omega arith, filled_start refl)
-
-pub loop-i-preserved : goal.loop-i-preserved
-unfolding under
-loop-i-preserved c =
-    let a = c.args in
-    (omega arith, filled_store c.loop-i.invariant.1 (omega arith) (bool_byte_lem (ltb (get_or a.places c.loop-i.i 0) a.x)))
-
 pub returns : goal.returns
-returns c = filled_end c.loop-i.invariant.1 c.loop-i-test.false
+unfolding under
+returns c = made _ (λ i. pick (under c.args.places c.args.x i) 1 0) (λ i y q l k. search rules) c.from_fn.ensures.items

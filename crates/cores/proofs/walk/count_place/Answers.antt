@@ -5,17 +5,17 @@ use native.Mathlib.Omega.{arith}
 use Rattle.cores.proofs.walk.count_place.Goals as goal
 
 pub loop-j-init : goal.loop-j-init
-loop-j-init c = (omega arith, filled_start refl)
+loop-j-init c = filled_start refl
 
 pub overflow_add-out : goal.overflow_add-out
 overflow_add-out c =
     let a = c.args in
-    rank_room a.places a.i c.loop-j.j c.requires.1 (omega arith) c.sooner.result (omega arith)
+    rw c.from.ensures (rank_room a.places a.i c.loop-j.j c.requires.1 c.loop-j-test.true c.sooner.result (omega arith))
 
 pub loop-j-preserved : goal.loop-j-preserved
 loop-j-preserved c =
     let a = c.args in
-    (omega arith, filled_store c.loop-j.invariant.1 (omega arith) (rank_turn a.places a.i c.loop-j.j c.requires.1 (omega arith) c.sooner.ensures))
+    filled_store c.loop-j.invariant (omega arith) (rw c.from.ensures (rank_turn a.places a.i c.loop-j.j c.requires.1 (omega arith) c.sooner.ensures))
 
 pub returns : goal.returns
-returns c = filled_end c.loop-j.invariant.1 c.loop-j-test.false
+returns c = filled_end c.loop-j.invariant (omega arith)

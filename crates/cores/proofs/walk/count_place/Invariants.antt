@@ -1,10 +1,7 @@
-use Prim.Native.Nat.{◌≤◌, ◌-◌, ◌+◌}
+use Prim.Native.Nat.{◌+◌}
 use Rattle.cores.specs.Walk.{rank}
 use Rattle.lists.proofs.Fill.{Filled}
 use Rattle.cores.proofs.walk.count_place.Given as goal
 
 abbrev pub invariant-loop-j : goal.invariant-loop-j
-invariant-loop-j l = (l.j ≤ 8) × Filled 0 (rank l.places (l.i + 1)) l.out l.j
-
-abbrev pub decreases-loop-j : goal.decreases-loop-j
-decreases-loop-j l = 8 - l.j
+invariant-loop-j l = Filled 0 (rank l.places (l.i + 1)) l.out l.j

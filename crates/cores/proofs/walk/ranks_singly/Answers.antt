@@ -1,13 +1,7 @@
-use mathlib.Core.Path.{refl}
-use Rattle.lists.proofs.Fill.{filled_start, filled_store, filled_end}
-use native.Mathlib.Omega.{arith}
+use Rattle.std.proofs.Common.{rules}
+use Rattle.lists.proofs.Made.{made}
+use Rattle.cores.specs.Walk.{rank}
 use Rattle.cores.proofs.walk.ranks_singly.Goals as goal
 
-pub loop-i-init : goal.loop-i-init
-loop-i-init c = (omega arith, filled_start refl)
-
-pub loop-i-preserved : goal.loop-i-preserved
-loop-i-preserved c = (omega arith, filled_store c.loop-i.invariant.1 (omega arith) c.count_before.ensures.0)
-
 pub returns : goal.returns
-returns c = filled_end c.loop-i.invariant.1 c.loop-i-test.false
+returns c = made _ (rank c.args.places 8) (λ i y q l k. search rules) c.from_fn.ensures.items

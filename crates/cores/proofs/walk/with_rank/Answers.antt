@@ -1,14 +1,9 @@
-use mathlib.Core.Path.{refl}
-use Rattle.lists.proofs.Fill.{filled_start, filled_store, filled_end}
-use native.Mathlib.Omega.{arith}
+use Rattle.std.proofs.Common.{rules, get_or, eqb, ◌&&◌}
+use Rattle.lists.specs.Lists.{pick}
+use Rattle.lists.proofs.Made.{made}
 use Rattle.cores.proofs.walk.with_rank.Goals as goal
 
-pub loop-i-init : goal.loop-i-init
-loop-i-init c = (omega arith, filled_start refl)
-
-pub loop-i-preserved : goal.loop-i-preserved
-loop-i-preserved c =
-    (omega arith, filled_store c.loop-i.invariant.1 (omega arith) c.given.ensures)
-
 pub returns : goal.returns
-returns c = filled_end c.loop-i.invariant.1 c.loop-i-test.false
+returns c =
+    let a = c.args in
+    made _ (λ i. pick (eqb (get_or a.ranks i 0) a.rank && eqb (get_or a.run i 0) 0) 1 (get_or a.run i 0)) (λ i y q l k. search rules) c.from_fn.ensures.items

@@ -9,12 +9,12 @@ use native.Mathlib.Omega.{arith}
 use Rattle.tasks.proofs.places.count_job.Goals as goal
 
 pub loop-i-init : goal.loop-i-init
-loop-i-init c = (omega arith, filled_start refl)
+loop-i-init c = filled_start refl
 
 pub overflow_add-out : goal.overflow_add-out
 overflow_add-out c =
     let a = c.args in
-    earlier_room a.keys a.ages a.j c.loop-i.i c.requires.1 (omega arith) c.goes_before.result (omega arith)
+    rw c.from.ensures (earlier_room a.keys a.ages a.j c.loop-i.i c.requires.1 (omega arith) c.goes_before.result (omega arith))
 
 pub loop-i-preserved : goal.loop-i-preserved
 unfolding before_in
@@ -25,7 +25,7 @@ loop-i-preserved c =
     rw
     (back (get_or a.keys a.j (pos 0)) c.goes_before-arg-1.given, back (get_or a.ages a.j (pos 0)) c.goes_before-arg-in-loop-i-1.given, back (get_or a.keys h.i (pos 0)) c.goes_before-arg-in-loop-i-2-1.given, back (get_or a.ages h.i (pos 0)) c.goes_before-arg-in-loop-i-3-1.given)
     at c.goes_before.ensures in
-    (omega arith, filled_store h.invariant.1 (omega arith) (earlier_turn a.keys a.ages a.j h.i c.requires.1 (omega arith) e))
+    filled_store h.invariant (omega arith) (rw c.from.ensures (earlier_turn a.keys a.ages a.j h.i c.requires.1 (omega arith) e))
 
 pub returns : goal.returns
-returns c = filled_end c.loop-i.invariant.1 c.loop-i-test.false
+returns c = filled_end c.loop-i.invariant (omega arith)

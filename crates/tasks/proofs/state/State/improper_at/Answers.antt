@@ -3,4 +3,4 @@ use Rattle.tasks.proofs.state.State.improper_at.Goals as goal
 
 pub returns : goal.returns
 unfolding improper_at
-returns c = rw c.late.ensures
+returns c = rw (c.from-n.ensures, c.late.ensures)

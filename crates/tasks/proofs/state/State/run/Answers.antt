@@ -1,20 +1,12 @@
-use native.Mathlib.Omega.{arith}
-use mathlib.Core.Path.{refl}
+use Rattle.std.proofs.Common.{rules}
+use Rattle.lists.proofs.Made.{made}
 use Rattle.tasks.specs.Tick.{ran_at, fallen, ran}
-use Rattle.lists.proofs.Fill.{filled_start, filled_store, filled_end}
 use Rattle.tasks.proofs.state.State.run.Goals as goal
 
-pub loop-i-init : goal.loop-i-init
-loop-i-init c = (omega arith, filled_start refl, filled_start refl)
-
-pub loop-i-preserved : goal.loop-i-preserved
-unfolding ran_at fallen
-loop-i-preserved c =
-    let inv = c.loop-i.invariant in
-    (omega arith, filled_store inv.1 (omega arith) (cc), filled_store inv.2 (omega arith) (cc))
-
 pub returns : goal.returns
-unfolding ran
+unfolding ran ran_at fallen
 returns c =
-    let inv = c.loop-i.invariant in
-    λ k. record { c = filled_end inv.1 (omega arith) k; p = filled_end inv.2 (omega arith) k }
+    let a = c.args in
+    let work = made _ (ran_at a.self.c a.run) (λ i y q l k. search rules) c.from_fn.ensures.items in
+    let gap = made _ (fallen a.self.p) (λ i y q l k. search rules) c.from_fn-2.ensures.items in
+    λ k. record { c = work k; p = gap k }

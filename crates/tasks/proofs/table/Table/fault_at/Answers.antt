@@ -5,8 +5,8 @@ use Rattle.tasks.proofs.table.Table.fault_at.Goals as goal
 
 pub returns-then-i-n : goal.returns-then-i-n
 unfolding fault_at
-returns-then-i-n c = rw (lt-ltb _ _ c.if-i-n.true, c.breaks.ensures, c.wide-work.ensures.0, c.wide-deadline.ensures.0, c.wide-gap.ensures.0)
+returns-then-i-n c = rw (lt-ltb _ _ (rw c.from-n.ensures at c.if-i-n.true), c.breaks.ensures, c.from-work.ensures, c.from-deadline.ensures, c.from-gap.ensures)
 
 pub returns : goal.returns
 unfolding fault_at
-returns c = rw (le-ltb _ _ c.if-i-n.false, c.wide-work.ensures.0, c.wide-deadline.ensures.0, c.wide-gap.ensures.0)
+returns c = rw (le-ltb _ _ (rw c.from-n.ensures at c.if-i-n.false), c.from-work.ensures, c.from-deadline.ensures, c.from-gap.ensures)
