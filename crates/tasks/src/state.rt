@@ -38,8 +38,16 @@ impl State {
         ensures { result ≡ released t self mask }
     {
         State {
-            c: array::from_fn(|i| if has_bit(mask, i) { t.work[i] } else { self.c[i] }),
-            p: array::from_fn(|i| if has_bit(mask, i) { t.gap[i] } else { self.p[i] }),
+            c: array::from_fn(|i| if has_bit(mask, i) {
+                t.work[i]
+            } else {
+                self.c[i]
+            }),
+            p: array::from_fn(|i| if has_bit(mask, i) {
+                t.gap[i]
+            } else {
+                self.p[i]
+            }),
         }
     }
 
@@ -48,7 +56,11 @@ impl State {
         ensures { result ≡ ran self run }
     {
         State {
-            c: array::from_fn(|i| if run[i] { self.c[i].saturating_sub(1) } else { self.c[i] }),
+            c: array::from_fn(|i| if run[i] {
+                self.c[i].saturating_sub(1)
+            } else {
+                self.c[i]
+            }),
             p: array::from_fn(|i| self.p[i].saturating_sub(1)),
         }
     }

@@ -1,5 +1,4 @@
 use mathlib.Core.Path.{◌∙◌}
-use Rattle.std.proofs.Common.{arith}
 use Rattle.tasks.specs.Places.{place}
 use Rattle.tasks.proofs.Place.{earlier_listed}
 use Rattle.tasks.proofs.state.State.place.Goals as goal
