@@ -76,7 +76,8 @@ fn lowered(places: [u16; 8], words: [u16; 8], m: u16) -> [u16; 8]
     array::from_fn(|i| words[i].saturating_sub(run[i]))
 }
 
-// The places of the tasks of eight words.
+// The places of the tasks of eight words. The hint keeps them in the tick, as the compiler would not with two callers.
+#[inline]
 fn places(
     bygap: [u16; 8],
     bywork: [u16; 8],
