@@ -1,13 +1,8 @@
-use mathlib.Core.Path.{refl}
-use native.Mathlib.Omega.{arith}
-use Rattle.lists.proofs.Fill.{filled_start, filled_store, filled_end}
+use Rattle.std.proofs.Common.{rules}
+use lib.Dec.{ltb}
+use Rattle.lists.specs.Lists.{pick}
+use Rattle.lists.proofs.Made.{made}
 use Rattle.tasks.proofs.ticker.limits.Goals as goal
 
-pub loop-i-init : goal.loop-i-init
-loop-i-init c = (omega arith, filled_start refl)
-
-pub loop-i-preserved : goal.loop-i-preserved
-loop-i-preserved c = (omega arith, filled_store c.loop-i.invariant.1 (omega arith) c.either16.ensures)
-
 pub returns : goal.returns
-returns c = filled_end c.loop-i.invariant.1 c.loop-i-test.false
+returns c = made _ (λ i. pick (ltb i c.args.t.n) 256 0) (λ i y q l k. search rules) c.from_fn.ensures.items

@@ -9,5 +9,5 @@ returns c =
     let a = c.args in
     c.lowered.ensures
     ∙ ap₂ (λ p w. lowered p w a.self.m)
-    (c.selected-places.ensures ∙ ap (λ n. eight (selected a.self.bits n a.state.place a.self.newplace)) c.wide16-m.ensures.0)
-    (c.selected-words.ensures ∙ ap (λ n. eight (selected a.self.bits n a.state.word a.self.newword)) c.wide16-m.ensures.0)
+    (c.selected-places.ensures ∙ ap (λ n. eight (selected a.self.bits n a.state.place a.self.newplace)) c.from-m.ensures)
+    (c.selected-words.ensures ∙ ap (λ n. eight (selected a.self.bits n a.state.word a.self.newword)) c.from-m.ensures)

@@ -3,4 +3,4 @@ use Rattle.tasks.proofs.ticker.Ticker.prepare.Goals as goal
 
 pub returns : goal.returns
 unfolding prepared_by
-returns c = λ k. record { place = c.places-place.ensures k; word = c.old_words-word.ensures k }
+returns c = λ k. record { place = c.places.ensures k; word = c.old_words.ensures k }
