@@ -28,8 +28,7 @@ fn draw_table(policy: u8, m: u8, n: u8, seed: u16) -> Table
         gap: [0; 8],
     };
     let mut s = seed;
-    let mut i: usize = 0;
-    while i < count {
+    for i in 0..count {
         let first = drawn(s);
         let second = drawn(first);
         let third = drawn(second);
@@ -38,7 +37,6 @@ fn draw_table(policy: u8, m: u8, n: u8, seed: u16) -> Table
         t.deadline[i] = task.deadline;
         t.gap[i] = task.gap;
         s = third;
-        i += 1;
     }
     t
 }

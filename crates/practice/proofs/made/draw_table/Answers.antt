@@ -3,15 +3,14 @@ use Rattle.practice.proofs.DrawLaws.{few_entries, drawing_start, drawing_step, d
 use Rattle.practice.proofs.made.draw_table.Goals as goal
 
 pub loop-i-init : goal.loop-i-init
-loop-i-init c = (omega arith, few_entries c.args.n c.entries-count.ensures, drawing_start)
+loop-i-init c = (few_entries c.args.n c.entries-count.ensures, drawing_start)
 
 pub loop-i-preserved : goal.loop-i-preserved
 loop-i-preserved c =
     let l = c.loop-i in
     let task = c.task_of-task.ensures in (
-      omega arith,
-      l.invariant.1,
-      drawing_step l.invariant.2
+      l.invariant.0,
+      drawing_step l.invariant.1
           (record {
             one = c.drawn-first.ensures;
             two = c.drawn-second.ensures;
@@ -24,5 +23,4 @@ loop-i-preserved c =
     )
 
 pub returns : goal.returns
-returns c =
-    drawing_end c.loop-i.invariant.2 (omega (arith, c.entries-count.ensures))
+returns c = drawing_end c.loop-i.invariant.1 (omega (arith, c.entries-count.ensures))
