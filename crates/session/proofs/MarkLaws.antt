@@ -1,6 +1,6 @@
 -- The marks of a session, one by one. Assumes nothing.
 use Prim.Native.Nat.{ℕ, ◌+◌, ◌-◌, ◌≤◌}
-use mathlib.Core.Path.{◌≡◌, refl, sym, ◌∙◌}
+use mathlib.Core.Path.{◌≡◌, refl, sym, ap, ◌∙◌}
 use mathlib.Core.Bool.{Bool, true, false}
 use mathlib.Core.List.{List, map}
 use native.Mathlib.Omega.{arith}
@@ -9,7 +9,7 @@ use lib.Dec.{eqb, ltb}
 use lib.ListN.{length, get_or, set, length-set, length-map}
 use lib.Seq.{ext_get_or, get_or-set_same, get_or-set_other}
 use borrow.Author.Tests.{ltb-true, ltb-false, eq-eqb, ne_eqb}
-use Rattle.std.specs.Prelude.{Option, Some, None, MatchOption}
+use Rattle.std.specs.Prelude.{Option, Some, None, is_some, IfSome, MatchOption}
 use Rattle.lists.specs.Lists.{eight, pick}
 use Rattle.tasks.specs.Table.{outside}
 use Rattle.tasks.specs.State.{improper}
@@ -31,6 +31,18 @@ without k e low high =
 -- what an array of structs tells of its length, for `search`
 pub length_mapped : (X Y : Type 0) (f : X → Y) (l : List X) (n : ℕ) → length (map f l) ≡ n → length l ≡ n
 length_mapped X Y f l n e = sym (length-map l f) ∙ e
+
+-- by what is stored
+pub by_stored : {X : Type 0} (o : Option State) → (o ≡ None → X) → ((s : State) → o ≡ Some s → X) → X
+by_stored None f g = f refl
+by_stored (Some s) f g = g s refl
+
+-- what is stored where a test holds
+pub stored_where :
+    (o : Option State) (s : State) {b : Bool} {P : State → Type 0} → is_some o ≡ b → IfSome o P → ((r : State) → P r → r ≡ s)
+    → o ≡ pick b (Some s) None
+stored_where None s e p f = rw (← e)
+stored_where (Some r) s e p f = rw (← e) (ap Some (f r p))
 
 -- a test of the state that is stored, where each state's answer is that it is improper
 pub stored_tested :
