@@ -16,9 +16,7 @@ pub fn cut_mask(mask: u8, k: u8) -> u8
 pub fn cut_list(masks: &mut [u8], k: u8)
     ensures { masks.new ≡ cut_list k masks.old }
 {
-    let mut i: usize = 0;
-    while i < masks.len() {
-        masks[i] = cut_mask(masks[i], k);
-        i += 1;
+    for mask in masks.iter_mut() {
+        *mask = cut_mask(*mask, k);
     }
 }

@@ -10,16 +10,13 @@ use tasks::{Reading, Sheet, State, Table};
 fn first_tasks(t: Table, k: u8) -> Table
     ensures { result ≡ cut_table k t }
 {
-    let work = t.work;
-    let deadline = t.deadline;
-    let gap = t.gap;
     Table {
         policy: t.policy,
         m: t.m,
         n: k,
-        work: first_of(k, work),
-        deadline: first_of(k, deadline),
-        gap: first_of(k, gap),
+        work: first_of(k, t.work),
+        deadline: first_of(k, t.deadline),
+        gap: first_of(k, t.gap),
     }
 }
 
@@ -31,14 +28,12 @@ pub fn cut_table(t: Table, k: u8) -> Sheet
     if 0 < fault {
         return tasks::refused(fault);
     }
-    let n = t.n;
-    if (k < 1) | (n < k) {
+    if !(1..=t.n).contains(&k) {
         return tasks::refused(6);
     }
-    let table = first_tasks(t, k);
     Sheet {
         answer: Reading::Accepted,
-        table,
+        table: first_tasks(t, k),
     }
 }
 
@@ -46,10 +41,8 @@ pub fn cut_table(t: Table, k: u8) -> Sheet
 pub fn cut_state(s: State, k: u8) -> State
     ensures { result ≡ cut_state k s }
 {
-    let c = s.c;
-    let p = s.p;
     State {
-        c: first_of(k, c),
-        p: first_of(k, p),
+        c: first_of(k, s.c),
+        p: first_of(k, s.p),
     }
 }

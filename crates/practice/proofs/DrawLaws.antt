@@ -1,12 +1,12 @@
 -- The numbers that draws give fit a task, and what a table is while its tasks are drawn. Assumes nothing.
-use Prim.Native.Nat.{ℕ, suc, ◌+◌, ◌*◌, ◌%◌, ◌≤◌, ◌<◌}
+use Prim.Native.Nat.{ℕ, suc, ◌+◌, ◌*◌, ◌%◌, ◌≤◌, ◌<◌, min}
 use mathlib.Core.Path.{◌≡◌, refl, ap, ap₂, ◌∙◌}
 use mathlib.Core.List.{List}
 use native.Mathlib.Nat.{mod-lt}
 use native.Mathlib.Omega.{arith}
 use lib.Dec.{ltb}
 use lib.ListN.{set}
-use borrow.Author.Tests.{ltb-true}
+use borrow.Author.Tests.{ltb-true, ltb-false}
 use Rattle.lists.specs.Lists.{pick, front}
 use Rattle.lists.proofs.Bools.{by_bool}
 use Rattle.lists.proofs.Fill.{front_more, front_eight}
@@ -42,11 +42,9 @@ drawn_fits i s = draws_fit (draw (3 * i + 1) s) (draw (3 * i + 2) s) (draw (3 * 
 -- ---- a table while its tasks are drawn
 
 -- no more than eight tasks have entries
-pub few_entries : (n : ℕ) {k : ℕ} → k ≡ pick (ltb n 8) n 8 → k ≤ 8
-few_entries n {k} e =
-    by_bool (ltb n 8)
-    (λ h. let q : k ≡ n = rw h at e in omega (arith, ltb-true n 8 h))
-    (λ h. let q : k ≡ 8 = rw h at e in omega arith)
+pub few_entries : (n : ℕ) → min n 8 ≡ pick (ltb n 8) n 8
+few_entries n =
+    by_bool (ltb n 8) (λ h. let l = ltb-true n 8 h in rw h (omega arith)) (λ h. let l = ltb-false n 8 h in rw h (omega arith))
 
 -- t after i tasks, and s after three draws for each
 pub record Drawing (policy m n seed : ℕ) (t : Table) (s i : ℕ) : Type 0 where

@@ -1,24 +1,15 @@
 // The table that is made of the draws, and its refusals.
-ghost use Rattle.std.specs.Prelude.{◌≡◌, ltb};
-ghost use Rattle.lists.specs.Lists.{pick};
+ghost use Rattle.std.specs.Prelude.{◌≡◌};
 ghost use Rattle.tasks.specs.Answers.{sheet_answer};
 ghost use Rattle.practice.specs.Practice.{practice_table, practice_of};
 
 use crate::draws::{drawn, task_of};
 use tasks::{Reading, Sheet, Table};
 
-// How many entries of a table the first n tasks take.
-fn entries(n: u8) -> usize
-    ensures { result ≡ pick (ltb n 8) n 8 }
-{
-    if n < 8 { n as usize } else { 8 }
-}
-
-// The table of the first n tasks, for any policy, m and n.
+// The table of the first n tasks, for any policy, m and n; it has room for eight.
 fn draw_table(policy: u8, m: u8, n: u8, seed: u16) -> Table
     ensures { result ≡ practice_table policy m n seed }
 {
-    let count = entries(n);
     let mut t = Table {
         policy,
         m,
@@ -28,8 +19,7 @@ fn draw_table(policy: u8, m: u8, n: u8, seed: u16) -> Table
         gap: [0; 8],
     };
     let mut s = seed;
-    let mut i: usize = 0;
-    while i < count {
+    for i in 0..usize::from(n.min(8)) {
         let first = drawn(s);
         let second = drawn(first);
         let third = drawn(second);
@@ -38,7 +28,6 @@ fn draw_table(policy: u8, m: u8, n: u8, seed: u16) -> Table
         t.deadline[i] = task.deadline;
         t.gap[i] = task.gap;
         s = third;
-        i += 1;
     }
     t
 }

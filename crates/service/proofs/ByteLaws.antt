@@ -1,15 +1,17 @@
 -- Totals as bytes: written number by number, and read back. Assumes nothing.
-use Prim.Native.Nat.{ℕ, zero, suc, ◌+◌, ◌*◌, ◌/◌, ◌%◌, ◌^◌, ◌≤◌, ◌<◌}
-use mathlib.Core.Path.{◌≡◌, refl, sym, ap, ◌∙◌}
-use mathlib.Core.List.{List, [], ◌∷◌, ◌++◌}
+use Prim.Native.Nat.{ℕ, zero, suc, ◌+◌, ◌*◌, ◌-◌, ◌/◌, ◌%◌, ◌^◌, ◌≤◌, ◌<◌}
+use mathlib.Core.Path.{◌≡◌, refl, sym, ap, ap₂, ◌∙◌}
+use mathlib.Core.List.{List, ◌∷◌, ◌++◌, append_assoc}
 use native.Mathlib.Omega.{arith}
 use native.Mathlib.Decide.{dec_lt}
-use native.Mathlib.Nat.{add_assoc, add-zero, zero-add, pow-suc, div-lt_iff_lt-mul}
+use native.Mathlib.Nat.{add_assoc, add-zero, zero-add, pow-suc, div-one, div-div-eq-div-mul, div-lt_iff_lt-mul}
 use native.Mathlib.Numerals.{add-one, one-add}
-use lib.ListN.{length, get_or, drop, set, length-append, get_or-append}
+use lib.ListN.{length, get_or, take, drop, length-append, get_or-append}
 use lib.Seq.{sets, sets-eq, get_or-append-add}
 use borrow.Author.Tests.{lt-ltb, le-ltb}
-use Rattle.tasks.proofs.Stores.{Storing, storing_start, storing_step, storing_last}
+use borrow.Rule.Slice.PartMut.{put_mid, Post-is}
+use Rattle.std.specs.Int.{w64, byte_at, bytes_low_first, to_le_bytes}
+use Rattle.tasks.proofs.Stores.{storing_start, storing_step, storing_last}
 use Rattle.service.specs.Bytes.{low_first, low_at, row_bytes, rows_of, totals_bytes, totals_space}
 use Rattle.service.specs.declared.totals.Totals.{Totals}
 
@@ -20,13 +22,25 @@ unfolding low_first
 low_length zero n = refl
 low_length (suc k) n = ap suc (low_length k (n / 256))
 
-module _ {old : List ℕ} {at : ℕ} {whole : List ℕ} where
-  -- the lowest byte is written
-  pub low_turn :
-      {out : List ℕ} (k m n : ℕ) → Storing old at whole out (at + k) (low_first (suc m) n)
-      → Storing old at whole (set out (at + k) (n % 256)) (at + (k + 1)) (low_first m (n / 256))
-  unfolding low_first
-  low_turn k m n s = storing_step (n % 256 ∷ []) (low_first m (n / 256)) s refl (omega arith)
+low_byte : (j n : ℕ) → byte_at j n ≡ n / 256 ^ j % 256
+low_byte zero n = ap (λ m. m % 256) (sym (div-one n))
+low_byte (suc j) n = refl
+
+-- the bytes of a number from byte j on
+low_bytes : (k j n : ℕ) → bytes_low_first j k n ≡ low_first k (n / 256 ^ j)
+unfolding low_first
+low_bytes zero j n = refl
+low_bytes (suc k) j n =
+    let next : n / 256 ^ suc j ≡ n / 256 ^ j / 256 = ap (λ p. n / p) (pow-suc 256 j) ∙ sym (div-div-eq-div-mul n (256 ^ j) 256) in
+    ap₂ (λ b l. b ∷ l) (low_byte j n) (low_bytes k (suc j) n ∙ ap (low_first k) next)
+
+-- the eight bytes of a number in the place of eight others
+pub low_put : (out : List ℕ) (at n : ℕ) {part : List ℕ} → at + 8 ≤ length out → part ≡ to_le_bytes w64 n → put_mid at (at + 8 - at) out part ≡ sets out at (low_first 8 n)
+low_put out at n {part} room e =
+    let same : part ≡ low_first 8 n = e ∙ low_bytes 8 0 n ∙ ap (low_first 8) (div-one n) in
+    let long = low_length 8 n in
+    rw (same, Post-is at (at + 8) out (omega arith))
+    (sym (append_assoc (take at out) (low_first 8 n) (drop (at + 8) out)) ∙ sym (rw long at (sets-eq (low_first 8 n) out at (omega arith))))
 
 -- ---- the three numbers of a task
 

@@ -12,13 +12,7 @@ fn put_number(out: &mut [u8], at: usize, n: u64)
     requires { at + 8 ≤ length out.old }
     ensures { out.new ≡ sets out.old at (low_first 8 n) }
 {
-    let mut rest = n;
-    let mut k: usize = 0;
-    while k < 8 {
-        out[at + k] = (rest % 256) as u8;
-        rest = rest / 256;
-        k += 1;
-    }
+    out[at..at + 8].copy_from_slice(&n.to_le_bytes());
 }
 
 // Writes the three numbers of a task from `at` on.
@@ -36,10 +30,8 @@ fn put_rows(x: Totals, out: &mut [u8])
     requires { 192 ≤ length out.old }
     ensures { out.new ≡ sets out.old 0 (totals_bytes x) }
 {
-    let mut i: usize = 0;
-    while i < 8 {
+    for i in 0..8 {
         put_row(out, 24 * i, x.releases[i], x.ran[i], x.left[i]);
-        i += 1;
     }
 }
 

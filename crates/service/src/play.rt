@@ -17,20 +17,19 @@ fn play(t: Table, masks: &[u8]) -> Account
     let mut s = State::start();
     let mut releases = [0u64; 8];
     let mut ran = [0u64; 8];
-    let mut i: usize = 0;
-    while i < masks.len() {
-        let mask = masks[i];
+    for (i, &mask) in masks.iter().enumerate() {
+        let tick = i + 1;
         let more = raised(releases, named(mask));
-        i += 1;
         if s.illegal(t, mask) {
-            return account_of(ReplayAnswer::Refused(11, i), s, releases, ran);
+            return account_of(ReplayAnswer::Refused(11, tick), s, releases, ran);
         }
         let released = s.release(t, mask);
         let run = released.choose(t);
         let longer = raised(ran, run);
         let next = released.run(run);
         if next.missed(t) {
-            return account_of(ReplayAnswer::Played(Outcome::Missed(i)), next, more, longer);
+            let answer = ReplayAnswer::Played(Outcome::Missed(tick));
+            return account_of(answer, next, more, longer);
         }
         s = next;
         releases = more;

@@ -5,10 +5,11 @@ ghost use Rattle.tasks.specs.Tick.{bit};
 ghost use Rattle.service.specs.Totals.{account_from};
 ghost use Rattle.service.specs.Raised.{Room, raised_at};
 
+use std::array;
 use tasks::{ReplayAnswer, Replayed, State};
 
 // For each of eight tasks: the number of its releases, the ticks in which it ran, and the work left at the end.
-#[derive(Clone, Copy)]
+#[derive(Clone, Copy, Debug, PartialEq, Eq)]
 pub struct Totals {
     pub releases: [u64; 8],
     pub ran: [u64; 8],
@@ -26,13 +27,7 @@ pub struct Account {
 pub(crate) fn named(mask: u8) -> [bool; 8]
     ensures { result ≡ eight (bit mask) }
 {
-    let mut named = [false; 8];
-    let mut i: usize = 0;
-    while i < 8 {
-        named[i] = tasks::has_bit(mask, i);
-        i += 1;
-    }
-    named
+    array::from_fn(|i| tasks::has_bit(mask, i))
 }
 
 // Each number, and one more where its task is among those given.
@@ -40,26 +35,14 @@ pub(crate) fn raised(numbers: [u64; 8], tasks: [bool; 8]) -> [u64; 8]
     requires { Room numbers }
     ensures { result ≡ eight (raised_at numbers tasks) }
 {
-    let mut raised = [0u64; 8];
-    let mut i: usize = 0;
-    while i < 8 {
-        raised[i] = numbers[i] + (tasks[i] as u64);
-        i += 1;
-    }
-    raised
+    array::from_fn(|i| numbers[i] + u64::from(tasks[i]))
 }
 
 // Bytes as wider numbers.
 fn widened(c: [u8; 8]) -> [u64; 8]
     ensures { result ≡ c }
 {
-    let mut wide = [0u64; 8];
-    let mut i: usize = 0;
-    while i < 8 {
-        wide[i] = c[i] as u64;
-        i += 1;
-    }
-    wide
+    array::from_fn(|i| u64::from(c[i]))
 }
 
 // An answer with the state beside it, and the totals: the work left is that of the state.
@@ -71,8 +54,7 @@ pub(crate) fn account_of(
 ) -> Account
     ensures { result ≡ account_from (record { answer = answer; state = state }) releases ran }
 {
-    let c = state.c;
-    let left = widened(c);
+    let left = widened(state.c);
     Account {
         replayed: Replayed { answer, state },
         totals: Totals {

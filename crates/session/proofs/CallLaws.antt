@@ -3,6 +3,7 @@ use Prim.Native.Nat.{ℕ}
 use mathlib.Core.Path.{◌≡◌, refl, sym, ap, ap₂, ◌∙◌}
 use native.Mathlib.Omega.{arith}
 use lib.Dec.{ltb}
+use Rattle.std.specs.Option.{unwrap_or}
 use Rattle.tasks.specs.Answers.{tick_answer}
 use Rattle.tasks.specs.declared.table.Table.{Table}
 use Rattle.tasks.specs.declared.state.State.{State}
@@ -76,4 +77,4 @@ pub not_done : (t : Table) (x : Session) (c : Call) → (call_answer t x c ≡ D
 unfolding stepped mark_set returned
 not_done t x (Step mask) h = after_stays x (step_tick t x mask).state (step_tick t x mask).answer h
 not_done t x (SetMark k) h = unless_stays (set_refusal t x k) x (marked x k) h
-not_done t x (ReturnTo k) h = unless_stays (return_refusal t x k) x (moved x (mark_at x k).state) h
+not_done t x (ReturnTo k) h = unless_stays (return_refusal t x k) x (moved x (unwrap_or (mark_at x k) x.present)) h

@@ -1,16 +1,21 @@
 -- The marks of a session, one by one. Assumes nothing.
-use Prim.Native.Nat.{ℕ, zero, suc, ◌+◌, ◌-◌, ◌≤◌, ◌<◌}
-use mathlib.Core.Path.{◌≡◌, refl, sym, ◌∙◌}
-use mathlib.Core.Bool.{true, false}
-use mathlib.Core.List.{List, [], ◌∷◌, map}
+use Prim.Native.Nat.{ℕ, ◌+◌, ◌-◌, ◌≤◌}
+use mathlib.Core.Path.{◌≡◌, refl, sym, ap, ◌∙◌}
+use mathlib.Core.Bool.{Bool, true, false}
+use mathlib.Core.List.{List, map}
 use native.Mathlib.Omega.{arith}
 use native.Mathlib.Decide.{ℕ_discrete}
 use lib.Dec.{eqb, ltb}
 use lib.ListN.{length, get_or, set, length-set, length-map}
 use lib.Seq.{ext_get_or, get_or-set_same, get_or-set_other}
 use borrow.Author.Tests.{ltb-true, ltb-false, eq-eqb, ne_eqb}
+use Rattle.std.specs.Prelude.{Option, Some, None, is_some, IfSome, MatchOption}
 use Rattle.lists.specs.Lists.{eight, pick}
 use Rattle.tasks.specs.Table.{outside}
+use Rattle.tasks.specs.State.{improper}
+use Rattle.tasks.specs.declared.state.State.{State}
+use Rattle.tasks.specs.declared.table.Table.{Table}
+use Rattle.session.specs.Session.{improper_stored}
 use Rattle.lists.proofs.Bools.{or_cases, nor_left, nor_right}
 use Rattle.lists.proofs.Picks.{pick_yes, pick_no}
 use Rattle.lists.proofs.Fill.{eight_at}
@@ -27,11 +32,24 @@ without k e low high =
 pub length_mapped : (X Y : Type 0) (f : X → Y) (l : List X) (n : ℕ) → length (map f l) ≡ n → length l ≡ n
 length_mapped X Y f l n e = sym (length-map l f) ∙ e
 
--- within a list the value for what lies past its end is not asked for
-pub any_default : {A : Type 0} (d d' : A) (l : List A) (i : ℕ) → i < length l → get_or l i d ≡ get_or l i d'
-any_default d d' [] i h = absurd (omega arith)
-any_default d d' (x ∷ l) zero h = refl
-any_default d d' (x ∷ l) (suc i) h = any_default d d' l i (omega arith)
+-- by what is stored
+pub by_stored : {X : Type 0} (o : Option State) → (o ≡ None → X) → ((s : State) → o ≡ Some s → X) → X
+by_stored None f g = f refl
+by_stored (Some s) f g = g s refl
+
+-- what is stored where a test holds
+pub stored_where :
+    (o : Option State) (s : State) {b : Bool} {P : State → Type 0} → is_some o ≡ b → IfSome o P → ((r : State) → P r → r ≡ s)
+    → o ≡ pick b (Some s) None
+stored_where None s e p f = rw (← e)
+stored_where (Some r) s e p f = rw (← e) (ap Some (f r p))
+
+-- a test of the state that is stored, where each state's answer is that it is improper
+pub stored_tested :
+    (t : Table) (o : Option State) {P : State → Type 0} {r : Bool} → ((s : State) → P s → r ≡ improper t s) → MatchOption o (r ≡ false) P
+    → r ≡ improper_stored t o
+stored_tested t None f e = e
+stored_tested t (Some s) f e = f s e
 
 module _ {A : Type 0} (d v : A) (l : List A) (len : length l ≡ 8) where
   -- the list with v as the kth, counted from 1

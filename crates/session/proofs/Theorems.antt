@@ -1,25 +1,25 @@
 -- The record law (document 02, §8), and that from a fresh session no call answers 13. Assumes nothing.
 use Prim.Native.Nat.{ℕ, ◌+◌, ◌-◌, ◌<◌}
 use mathlib.Core.Path.{◌≡◌, refl, sym, ap, subst, ◌∙◌}
-use mathlib.Core.Bool.{true, false, ◌&&◌}
+use mathlib.Core.Bool.{true, false}
 use mathlib.Core.List.{List, [], ◌∷◌, ◌++◌}
 use native.Mathlib.Omega.{arith}
 use native.Mathlib.Decide.{ℕ_discrete}
 use lib.Dec.{eqb, ltb}
+use Rattle.std.specs.Prelude.{Option, Some, None, is_some}
+use Rattle.std.specs.Option.{unwrap_or}
 use borrow.Author.Tests.{ltb-true, ltb-false, le-ltb, eq-eqb, ne_eqb}
 use Rattle.lists.specs.Lists.{pick}
 use Rattle.tasks.specs.Table.{outside, table_fault}
-use Rattle.tasks.specs.State.{improper}
 use Rattle.tasks.specs.Tick.{ticked}
 use Rattle.tasks.specs.Replay.{played}
 use Rattle.tasks.specs.declared.state.State.{State}
 use Rattle.tasks.specs.declared.table.Table.{Table}
 use Rattle.tasks.specs.declared.tick.TickAnswer.{TickAnswer}
 use Rattle.tasks.specs.declared.tick.TickAnswer.TheVariants as Tick
-use Rattle.session.specs.Session.{empty, fresh, mark_in, mark_at, first_of, improper_mark, improper_session, session_fault, beyond, never_set, set_refusal, return_refusal, step_tick, moved, after_tick, stepped, marked, unless_refused, mark_set, returned, step_answer, call_answer, called}
+use Rattle.session.specs.Session.{empty, fresh, mark_in, mark_at, first_of, improper_stored, improper_mark, improper_session, session_fault, beyond, never_set, set_refusal, return_refusal, step_tick, moved, after_tick, stepped, marked, unless_refused, mark_set, returned, step_answer, call_answer, called}
 use Rattle.session.specs.Record.{Stored, Record, blank, stored_under, brought_back, noted, session_after, record_after, KeptAs, MarkOnRecord, OnRecord}
 use Rattle.session.specs.Record.Stored.{Nothing, Listed}
-use Rattle.session.specs.declared.marks.Mark.{Mark}
 use Rattle.session.specs.declared.marks.Session.{Session}
 use Rattle.session.specs.declared.calls.SessionAnswer.{SessionAnswer}
 use Rattle.session.specs.declared.calls.SessionAnswer.TheVariants.{Done, Refused}
@@ -58,9 +58,9 @@ not_beyond : (k : ℕ) → beyond k ≡ 0 → outside k ≡ false
 unfolding beyond
 not_beyond k e = by_bool (outside k) (λ h. absurd (let z = rw h at e in omega arith)) (λ h. h)
 
-was_set : (x : Session) (k : ℕ) → never_set x k ≡ 0 → (mark_at x k).set ≡ true
+was_set : (x : Session) (k : ℕ) → never_set x k ≡ 0 → is_some (mark_at x k) ≡ true
 unfolding never_set
-was_set x k e = by_bool (mark_at x k).set (λ h. h) (λ h. absurd (let z = rw h at e in omega arith))
+was_set x k e = by_bool (is_some (mark_at x k)) (λ h. h) (λ h. absurd (let z = rw h at e in omega arith))
 
 -- the number that a refused call on marks answers
 refusal_told : (r n : ℕ) (x x' : Session) → (unless_refused r x x').answer ≡ Refused n → r ≡ n
@@ -76,7 +76,7 @@ set_not k e = by_bool (outside k) (λ h. let z = rw h at e in omega arith) (λ h
 
 never_not : (x : Session) (k : ℕ) → never_set x k ≡ 13 → ⊥
 unfolding never_set
-never_not x k e = by_bool (mark_at x k).set (λ h. let z = rw h at e in omega arith) (λ h. let z = rw h at e in omega arith)
+never_not x k e = by_bool (is_some (mark_at x k)) (λ h. let z = rw h at e in omega arith) (λ h. let z = rw h at e in omega arith)
 
 return_not : (x : Session) (k : ℕ) → first_of (beyond k) (never_set x k) ≡ 13 → ⊥
 return_not x k e = by_bool (ltb 0 (beyond k)) (λ h. set_not k (rw h at e)) (λ h. never_not x k (rw h at e))
@@ -105,12 +105,12 @@ unfolding marked
 marked_present x k = refl
 
 -- a mark is where it was, or the one that was set
-mark_set_lem : (x : Session) (k : ℕ) → outside k ≡ false → mark_at (marked x k) k ≡ record { set = true; state = x.present }
+mark_set_lem : (x : Session) (k : ℕ) → outside k ≡ false → mark_at (marked x k) k ≡ Some x.present
 unfolding marked
 mark_set_lem x k e =
     let range = within k e in
     mark_within (marked x k) k e
-    ∙ eight_at empty (λ i. pick (eqb (i + 1) k) (record { set = true; state = x.present }) (mark_in x i)) (k - 1) (omega arith)
+    ∙ eight_at empty (λ i. pick (eqb (i + 1) k) (Some x.present) (mark_in x i)) (k - 1) (omega arith)
     ∙ sym (pick_yes (mark_in x (k - 1)) (eq-eqb (k - 1 + 1) k (omega arith)))
 
 mark_stays : (x : Session) (k j : ℕ) → (j ≡ k → ⊥) → mark_at (marked x k) j ≡ mark_at x j
@@ -121,21 +121,21 @@ mark_stays x k j ne =
     (λ e.
     let range = within j e in
     mark_within (marked x k) j e
-    ∙ eight_at empty (λ i. pick (eqb (i + 1) k) (record { set = true; state = x.present }) (mark_in x i)) (j - 1) (omega arith)
-    ∙ sym (pick_no (record { set = true; state = x.present }) (ne_eqb (j - 1 + 1) k (λ q. ne (omega arith))) refl)
+    ∙ eight_at empty (λ i. pick (eqb (i + 1) k) (Some x.present) (mark_in x i)) (j - 1) (omega arith)
+    ∙ sym (pick_no (Some x.present) (ne_eqb (j - 1 + 1) k (λ q. ne (omega arith))) refl)
     ∙ sym (mark_within x j e))
 
 mark_moved : (x : Session) (s : State) (k : ℕ) → mark_at (moved x s) k ≡ mark_at x k
 unfolding mark_at
 mark_moved x s k = refl
 
-mark_fresh : (k : ℕ) → (mark_at fresh k).set ≡ false
+mark_fresh : (k : ℕ) → mark_at fresh k ≡ None
 mark_fresh k =
     by_bool (outside k)
-    (λ e. ap (λ m. m.set) (mark_outside fresh k e))
+    (λ e. mark_outside fresh k e)
     (λ e.
     let range = within k e in
-    ap (λ m. m.set) (mark_within fresh k e ∙ eight_at empty (λ i. empty) (k - 1) (omega arith)))
+    mark_within fresh k e ∙ eight_at empty (λ i. empty) (k - 1) (omega arith))
 
 module _ (t : Table) (valid : table_fault t ≡ 0) where
   -- ---- the record of a session whose calls are noted
@@ -161,20 +161,20 @@ module _ (t : Table) (valid : table_fault t ≡ 0) where
       record {
         present = rw (marked_present x k) on.present;
         marks = λ j. elim (ℕ_discrete j k) [
-          | yes q ↦ rw (q, mark_set_lem x k e, eq-eqb k k refl) (refl, on.present)
+          | yes q ↦ rw (q, mark_set_lem x k e, eq-eqb k k refl) (x.present, refl, on.present)
           | no q ↦ rw (mark_stays x k j q, ne_eqb j k q) (on.marks j)
         ];
       }
 
   -- the list under a mark that is set is brought back
   return_noted :
-      (x : Session) (h : Record) (k : ℕ) (u : Stored) → (mark_at x k).set ≡ true → MarkOnRecord t (mark_at x k) u → OnRecord t x h
-      → OnRecord t (moved x (mark_at x k).state) (brought_back h u)
-  return_noted x h k Nothing set unset on = clash set unset
+      (x : Session) (h : Record) (k : ℕ) (u : Stored) → is_some (mark_at x k) ≡ true → MarkOnRecord t (mark_at x k) u → OnRecord t x h
+      → OnRecord t (moved x (unwrap_or (mark_at x k) x.present)) (brought_back h u)
+  return_noted x h k Nothing set unset on = clash set (ap is_some unset)
   return_noted x h k (Listed l) set stored on =
       record {
-        present = stored.1;
-        marks = λ j. subst (λ m. MarkOnRecord t m (h.stored j)) (sym (mark_moved x (mark_at x k).state j)) (on.marks j);
+        present = rw stored.1 stored.2;
+        marks = λ j. subst (λ m. MarkOnRecord t m (h.stored j)) (sym (mark_moved x (unwrap_or (mark_at x k) x.present) j)) (on.marks j);
       }
 
   -- LAW: one call keeps session and record together
@@ -195,7 +195,7 @@ module _ (t : Table) (valid : table_fault t ≡ 0) where
       (λ e. subst Both (sym e) on)
   call_noted x h (ReturnTo k) on =
       let Both : Called → Type 0 = λ r. OnRecord t r.session (noted h (ReturnTo k) r.answer) in
-      unless (return_refusal t x k) x (moved x (mark_at x k).state)
+      unless (return_refusal t x k) x (moved x (unwrap_or (mark_at x k) x.present))
       (λ z e.
       let free = none_of (session_fault t x) (first_of (beyond k) (never_set x k)) z in
       let set = was_set x k (none_of (beyond k) (never_set x k) free.1).1 in
@@ -220,14 +220,14 @@ module _ (t : Table) (valid : table_fault t ≡ 0) where
   -- ---- no call answers 13
 
   -- a mark on record has a proper state
-  mark_proper : (mark : Mark) (u : Stored) → MarkOnRecord t mark u → mark.set && improper t mark.state ≡ false
+  mark_proper : (mark : Option State) (u : Stored) → MarkOnRecord t mark u → improper_stored t mark ≡ false
   mark_proper mark Nothing unset = rw unset
-  mark_proper mark (Listed l) stored = rw stored.0 (kept_proper t valid l mark.state stored.1)
+  mark_proper mark (Listed l) stored = rw stored.1 (kept_proper t valid l stored.0 stored.2)
 
   marks_proper : (x : Session) (h : Record) → OnRecord t x h → (i : ℕ) → i < 8 → improper_mark t x i ≡ false
   unfolding improper_mark
   marks_proper x h on i b =
-      subst (λ m. m.set && improper t m.state ≡ false) (mark_number x i b) (mark_proper (mark_at x (i + 1)) (h.stored (i + 1)) (on.marks (i + 1)))
+      subst (λ m. improper_stored t m ≡ false) (mark_number x i b) (mark_proper (mark_at x (i + 1)) (h.stored (i + 1)) (on.marks (i + 1)))
 
   -- a session on record is refused for no fault of its own
   proper_session : (x : Session) (h : Record) → OnRecord t x h → session_fault t x ≡ 0
@@ -251,7 +251,7 @@ module _ (t : Table) (valid : table_fault t ≡ 0) where
   not_thirteen x h (ReturnTo k) on e =
       return_not x k
       (ap (λ r. first_of r (first_of (beyond k) (never_set x k))) (sym (proper_session x h on))
-      ∙ refusal_told (return_refusal t x k) 13 x (moved x (mark_at x k).state) e)
+      ∙ refusal_told (return_refusal t x k) 13 x (moved x (unwrap_or (mark_at x k) x.present)) e)
 
   -- THEOREM: from a fresh session no call answers 13
   pub no_thirteen : (cs : List Call) (c : Call) → call_answer t (session_after t fresh cs) c ≡ Refused 13 → ⊥

@@ -1,5 +1,5 @@
 -- The record beside a session (document 02, §8): for every list of calls "the present state is the replay of the release list on record".
-use Rattle.std.specs.Prelude.{ℕ, ◌≡◌, true, false, List, [], ◌∷◌, ◌++◌, eqb}
+use Rattle.std.specs.Prelude.{ℕ, ◌≡◌, List, [], ◌∷◌, ◌++◌, eqb, Option, Some, None}
 use Rattle.lists.specs.Lists.{pick}
 use Rattle.tasks.specs.Replay.{replayed}
 use Rattle.tasks.specs.declared.state.State.{State}
@@ -7,7 +7,6 @@ use Rattle.tasks.specs.declared.table.Table.{Table}
 use Rattle.tasks.specs.declared.play.Outcome.TheVariants.{Kept}
 use Rattle.tasks.specs.declared.play.ReplayAnswer.TheVariants.{Played}
 use Rattle.session.specs.Session.{mark_at, call_answer, called}
-use Rattle.session.specs.declared.marks.Mark.{Mark}
 use Rattle.session.specs.declared.marks.Session.{Session}
 use Rattle.session.specs.declared.calls.SessionAnswer.{SessionAnswer}
 use Rattle.session.specs.declared.calls.SessionAnswer.TheVariants.{Done, Missed, Refused}
@@ -68,9 +67,9 @@ abbrev pub KeptAs : Table → List ℕ → State → Type 0
 KeptAs t l s = replayed t l ≡ record { answer = Played Kept; state = s }
 
 -- a mark is empty where nothing is stored under it, and otherwise its state is the replay of the list
-abbrev pub MarkOnRecord : Table → Mark → Stored → Type 0
-MarkOnRecord t mark Nothing = mark.set ≡ false
-MarkOnRecord t mark (Listed l) = (mark.set ≡ true) × KeptAs t l mark.state
+abbrev pub MarkOnRecord : Table → Option State → Stored → Type 0
+MarkOnRecord t mark Nothing = mark ≡ None
+MarkOnRecord t mark (Listed l) = (s : State) × (mark ≡ Some s) × KeptAs t l s
 
 -- the present state is the replay of the list on record, and each mark's that of what is stored under it
 pub record OnRecord (t : Table) (x : Session) (h : Record) : Type 0 where

@@ -1,6 +1,7 @@
 -- A session with marks (document 02, §8): its present state, eight marks, and the calls step, set mark and return to mark, for any table and session. Marks are numbered
 -- from 1 in a call, as the paper has them, and from 0 in the list.
-use Rattle.std.specs.Prelude.{ℕ, ◌+◌, ◌-◌, Bool, true, false, ◌&&◌, ◌||◌, List, [], ◌∷◌, eqb, ltb, get_or}
+use Rattle.std.specs.Prelude.{ℕ, ◌+◌, ◌-◌, Bool, false, ◌||◌, List, [], ◌∷◌, eqb, ltb, get_or, Option, Some, None, is_some}
+use Rattle.std.specs.Option.{unwrap_or}
 use Rattle.lists.specs.Lists.{eight, pick, any}
 use Rattle.tasks.specs.Table.{outside, table_fault}
 use Rattle.tasks.specs.State.{start, improper}
@@ -10,7 +11,6 @@ use Rattle.tasks.specs.declared.table.Table.{Table}
 use Rattle.tasks.specs.declared.tick.TickAnswer.{TickAnswer}
 use Rattle.tasks.specs.declared.tick.TickAnswer.TheVariants as Tick
 use Rattle.tasks.specs.declared.tick.Ticked.{Ticked}
-use Rattle.session.specs.declared.marks.Mark.{Mark}
 use Rattle.session.specs.declared.marks.Session.{Session}
 use Rattle.session.specs.declared.calls.SessionAnswer.{SessionAnswer}
 use Rattle.session.specs.declared.calls.SessionAnswer.TheVariants.{Done, Missed, Refused}
@@ -21,20 +21,20 @@ use Rattle.session.specs.declared.calls.Called.{Called}
 
 -- ---- the session: "a present state and eight marks, first empty"
 
--- a mark that is not set; the state beside it says nothing
-abbrev pub empty : Mark
-empty = record { set = false; state = start }
+-- a mark that is not set has no state
+abbrev pub empty : Option State
+empty = None
 
 -- a fresh session: the start state, no marks
 abbrev pub fresh : Session
 fresh = record { present = start; marks = eight (λ i. empty) }
 
 -- the ith mark of the list, counted from 0
-abbrev pub mark_in : Session → ℕ → Mark
+abbrev pub mark_in : Session → ℕ → Option State
 mark_in x i = get_or x.marks i empty
 
 -- mark k, "1 to 8"; any other number has none
-unfoldable pub mark_at : Session → ℕ → Mark
+unfoldable pub mark_at : Session → ℕ → Option State
 mark_at x k = pick (outside k) empty (mark_in x (k - 1))
 
 -- ---- refusals, 0 where there is none
@@ -43,9 +43,14 @@ mark_at x k = pick (outside k) empty (mark_in x (k - 1))
 abbrev pub first_of : ℕ → ℕ → ℕ
 first_of a b = pick (ltb 0 a) a b
 
--- the ith mark is set, and its state is not proper
+-- a mark is set, and its state is not proper
+abbrev pub improper_stored : Table → Option State → Bool
+improper_stored t None = false
+improper_stored t (Some s) = improper t s
+
+-- the ith mark is
 unfoldable pub improper_mark : Table → Session → ℕ → Bool
-improper_mark t x i = (mark_in x i).set && improper t (mark_in x i).state
+improper_mark t x i = improper_stored t (mark_in x i)
 
 -- "a session handed in with an improper state, present or marked"
 unfoldable pub improper_session : Table → Session → Bool
@@ -61,7 +66,7 @@ beyond k = pick (outside k) 15 0
 
 -- "16, a return to a mark never set"
 unfoldable pub never_set : Session → ℕ → ℕ
-never_set x k = pick (mark_at x k).set 0 16
+never_set x k = pick (is_some (mark_at x k)) 0 16
 
 -- why mark k is not set, and why there is no return to it: 15 is "judged before 16"
 unfoldable pub set_refusal : Table → Session → ℕ → ℕ
@@ -96,7 +101,7 @@ unfoldable pub marked : Session → ℕ → Session
 marked x k =
     record {
       present = x.present;
-      marks = eight (λ i. pick (eqb (i + 1) k) (record { set = true; state = x.present }) (mark_in x i));
+      marks = eight (λ i. pick (eqb (i + 1) k) (Some x.present) (mark_in x i));
     }
 
 -- a refusal with the session given, or Done with the one after the call
@@ -106,9 +111,9 @@ unless_refused r x x' = pick (ltb 0 r) (record { answer = Refused r; session = x
 unfoldable pub mark_set : Table → Session → ℕ → Called
 mark_set t x k = unless_refused (set_refusal t x k) x (marked x k)
 
--- the mark that is returned to stays
+-- the mark that is returned to stays; where none is set there is a refusal
 unfoldable pub returned : Table → Session → ℕ → Called
-returned t x k = unless_refused (return_refusal t x k) x (moved x (mark_at x k).state)
+returned t x k = unless_refused (return_refusal t x k) x (moved x (unwrap_or (mark_at x k) x.present))
 
 -- ---- any of the calls
 

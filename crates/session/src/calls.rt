@@ -14,7 +14,7 @@ pub struct Stepped {
 }
 
 // The three calls, with a mask or the number of a mark.
-#[derive(Clone, Copy)]
+#[derive(Clone, Copy, Debug, PartialEq, Eq)]
 pub enum Call {
     Step(u8),
     SetMark(u8),
@@ -22,7 +22,7 @@ pub enum Call {
 }
 
 // The answer of a call; the session after it travels beside it. Only a step is Missed.
-#[derive(Clone, Copy)]
+#[derive(Clone, Copy, Debug, PartialEq, Eq)]
 pub enum SessionAnswer {
     Done,
     Missed,
@@ -104,8 +104,7 @@ impl Session {
     fn never_set(self, k: u8) -> u8
         ensures { result ≡ never_set self k }
     {
-        let mark = self.mark(k);
-        if mark.set { 0 } else { 16 }
+        if self.mark(k).is_some() { 0 } else { 16 }
     }
 
     // Why mark k is not set.
@@ -159,19 +158,14 @@ impl Session {
     pub fn set_mark(self, t: Table, k: u8) -> Called
         ensures { (session_answer result.answer ≡ session_answer (mark_set t self k).answer) × (result.session ≡ (mark_set t self k).session) }
     {
-        let why = self.set_refusal(t, k);
-        let after = self.marked(k);
-        unless_refused(why, self, after)
+        unless_refused(self.set_refusal(t, k), self, self.marked(k))
     }
 
     // Return to mark k, which stays: its state is the present one.
     pub fn return_to(self, t: Table, k: u8) -> Called
         ensures { (session_answer result.answer ≡ session_answer (returned t self k).answer) × (result.session ≡ (returned t self k).session) }
     {
-        let why = self.return_refusal(t, k);
-        let mark = self.mark(k);
-        let after = self.at_mark(mark);
-        unless_refused(why, self, after)
+        unless_refused(self.return_refusal(t, k), self, self.at_mark(k))
     }
 
     // Any of the three calls.

@@ -5,4 +5,4 @@ mod calls;
 mod marks;
 
 pub use calls::{Call, Called, SessionAnswer, Stepped};
-pub use marks::{Mark, Session};
+pub use marks::Session;

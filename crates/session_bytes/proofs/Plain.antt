@@ -1,27 +1,26 @@
--- Sessions that bytes can hold, which the calls keep: the lists of their states have eight numbers, and a mark that is not set is empty. Assumes nothing.
+-- Sessions that bytes can hold, which the calls keep: the lists of their states have eight numbers, those of marks too. Assumes nothing.
 use Prim.Native.Nat.{ℕ, ◌+◌, ◌-◌, ◌<◌}
 use mathlib.Core.Path.{◌≡◌, refl, sym, subst}
-use mathlib.Core.Bool.{true, false}
 use mathlib.Core.List.{List}
 use native.Mathlib.Omega.{arith}
 use lib.Dec.{eqb, ltb}
 use lib.ListN.{length, get_or}
+use Rattle.std.specs.Prelude.{Option, Some, None}
+use Rattle.std.specs.Option.{unwrap_or}
 use Rattle.lists.specs.Lists.{eight, pick}
 use Rattle.tasks.specs.Table.{outside}
 use Rattle.tasks.specs.Tick.{bit, refusal, missed, ran, after, ticked}
-use Rattle.tasks.specs.State.{start}
 use Rattle.tasks.specs.declared.state.State.{State}
 use Rattle.tasks.specs.declared.table.Table.{Table}
 use Rattle.tasks.specs.declared.tick.TickAnswer.{TickAnswer}
 use Rattle.tasks.specs.declared.tick.TickAnswer.TheVariants as Tick
 use Rattle.states.specs.Bytes.{state_from}
 use Rattle.session.specs.Session.{empty, mark_in, mark_at, session_fault, set_refusal, return_refusal, step_tick, moved, after_tick, stepped, marked, unless_refused, mark_set, returned, called}
-use Rattle.session.specs.declared.marks.Mark.{Mark}
 use Rattle.session.specs.declared.marks.Session.{Session}
 use Rattle.session.specs.declared.calls.Call.{Call}
 use Rattle.session.specs.declared.calls.Call.TheVariants.{Step, SetMark, ReturnTo}
 use Rattle.session_bytes.specs.Space.{place, mark_from, session_from}
-use Rattle.lists.proofs.Bools.{by_bool, clash}
+use Rattle.lists.proofs.Bools.{by_bool}
 use Rattle.lists.proofs.Fill.{eight_at}
 use Rattle.session.proofs.MarkLaws.{within}
 
@@ -30,20 +29,15 @@ pub record Eight (s : State) : Type 0 where
   pub c : length s.c ≡ 8
   pub p : length s.p ≡ 8
 
-pub record PlainMark (mark : Mark) : Type 0 where
-  pub state : Eight mark.state
-  pub unset : mark.set ≡ false → mark ≡ empty
+-- a mark that is set has such a state
+abbrev pub PlainMark : Option State → Type 0
+PlainMark None = Unit {0}
+PlainMark (Some s) = Eight s
 
 pub record Plain (x : Session) : Type 0 where
   pub present : Eight x.present
   pub list : x.marks ≡ eight (mark_in x)
   pub marks : (i : ℕ) → i < 8 → PlainMark (mark_in x i)
-
-start_eight : Eight start
-start_eight = record { c = refl; p = refl }
-
-empty_plain : PlainMark empty
-empty_plain = record { state = start_eight; unset = λ e. refl }
 
 pub from_eight : (b : List ℕ) (at : ℕ) → Eight (state_from b at)
 from_eight b at = record { c = refl; p = refl }
@@ -54,8 +48,8 @@ mark_plain : (b : List ℕ) (i : ℕ) → PlainMark (mark_from b i)
 unfolding mark_from
 mark_plain b i =
     by_bool (bit (get_or b 0 0) i)
-    (λ e. rw e (record { state = from_eight b (place (i + 1)); unset = λ q. clash refl q }))
-    (λ e. rw e empty_plain)
+    (λ e. rw e (from_eight b (place (i + 1))))
+    (λ e. rw e tt)
 
 pub from_plain : (b : List ℕ) → Plain (session_from b)
 unfolding session_from
@@ -99,16 +93,21 @@ set_plain x k plain =
       list = refl;
       marks = λ i h.
           subst PlainMark
-          (sym (eight_at empty (λ j. pick (eqb (j + 1) k) (record { set = true; state = x.present }) (mark_in x j)) i h))
+          (sym (eight_at empty (λ j. pick (eqb (j + 1) k) (Some x.present) (mark_in x j)) i h))
           (by_bool (eqb (i + 1) k)
-          (λ e. rw e (record { state = plain.present; unset = λ q. clash refl q }))
+          (λ e. rw e plain.present)
           (λ e. rw e (plain.marks i h)));
     }
 
 at_plain : (x : Session) (k : ℕ) → Plain x → PlainMark (mark_at x k)
 unfolding mark_at
 at_plain x k plain =
-    by_bool (outside k) (λ e. rw e empty_plain) (λ e. rw e (plain.marks (k - 1) (omega (arith, within k e))))
+    by_bool (outside k) (λ e. rw e tt) (λ e. rw e (plain.marks (k - 1) (omega (arith, within k e))))
+
+-- the state of a mark, where it is set, and else the present one
+or_eight : (mark : Option State) (s : State) → PlainMark mark → Eight s → Eight (unwrap_or mark s)
+or_eight None s plain e = e
+or_eight (Some s') s plain e = plain
 
 unless_plain : (r : ℕ) (x x' : Session) → Plain x → Plain x' → Plain (unless_refused r x x').session
 unless_plain r x x' plain plain' = by_bool (ltb 0 r) (λ e. rw e plain) (λ e. rw e plain')
@@ -119,4 +118,5 @@ called_plain t x (Step mask) plain =
     after_plain x (step_tick t x mask).state (step_tick t x mask).answer (step_eight t x mask plain.present) plain
 called_plain t x (SetMark k) plain = unless_plain (set_refusal t x k) x (marked x k) plain (set_plain x k plain)
 called_plain t x (ReturnTo k) plain =
-    unless_plain (return_refusal t x k) x (moved x (mark_at x k).state) plain (moved_plain x (mark_at x k).state (at_plain x k plain).state plain)
+    let back = unwrap_or (mark_at x k) x.present in
+    unless_plain (return_refusal t x k) x (moved x back) plain (moved_plain x back (or_eight (mark_at x k) x.present (at_plain x k plain) plain.present) plain)

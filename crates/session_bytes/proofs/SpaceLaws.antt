@@ -6,13 +6,13 @@ use native.Mathlib.Omega.{arith}
 use native.Mathlib.Numerals.{add-one}
 use lib.ListN.{length, get_or, take, drop, length-drop}
 use lib.Seq.{sets, length-sets, take_all, get_or-drop}
+use Rattle.std.specs.Prelude.{Option, Some, None}
 use Rattle.states.specs.Bytes.{state_from, state_in, state_bytes}
 use Rattle.tasks.specs.declared.state.State.{State}
 use Rattle.slots.specs.StateSpace.{state_space}
 use Rattle.session.specs.Session.{mark_in}
 use Rattle.session.specs.declared.marks.Session.{Session}
-use Rattle.session_bytes.specs.Space.{place, mark_written, marks_written}
-use Rattle.lists.proofs.Bools.{by_bool}
+use Rattle.session_bytes.specs.Space.{place, stored_written, mark_written, marks_written}
 use Rattle.slots.proofs.Bytes.{state_same, state_length, lent_sets}
 use Rattle.slots.proofs.WriteLaws.{space_room}
 
@@ -40,10 +40,13 @@ state_put w at s e h =
     room = rw (take_all (length w - at) (drop at w) (omega (arith, length-drop at w))) (omega (arith, length-drop at w))
 
 -- writing a mark keeps the length
+stored_length : (o : Option State) (j : ℕ) (b : List ℕ) → length (stored_written o j b) ≡ length b
+stored_length None j b = refl
+stored_length (Some s) j b = length-sets b (place j) (state_bytes s)
+
 pub mark_length : (x : Session) (i : ℕ) (b : List ℕ) → length (mark_written x i b) ≡ length b
 unfolding mark_written
-mark_length x i b =
-    by_bool (mark_in x i).set (λ e. rw e (length-sets b (place (i + 1)) (state_bytes (mark_in x i).state))) (λ e. rw e)
+mark_length x i b = stored_length (mark_in x i) (i + 1) b
 
 -- one mark more
 pub marks_none : (x : Session) (b : List ℕ) → b ≡ marks_written x 0 b

@@ -3,18 +3,20 @@ use Prim.Native.Nat.{ℕ, zero, suc, ◌+◌, ◌*◌, ◌≤◌, ◌<◌}
 use mathlib.Core.Path.{◌≡◌, refl, sym, ap, ap₂, subst, ◌∙◌}
 use mathlib.Core.Logic.{◌⊎◌}
 use mathlib.Core.Logic.◌⊎◌.{inl}
-use mathlib.Core.Bool.{true, false}
+use mathlib.Core.Bool.{false}
 use mathlib.Core.List.{List, [], ◌∷◌}
 use native.Mathlib.Omega.{arith}
 use native.Mathlib.Decide.{ℕ_discrete}
 use lib.ListN.{length, get_or}
 use lib.Seq.{sets, length-sets}
+use Rattle.std.specs.Prelude.{Option, Some, None, is_some}
 use Rattle.lists.specs.Lists.{bits_of}
 use Rattle.tasks.specs.Table.{table_fault}
 use Rattle.tasks.specs.Tick.{bit}
 use Rattle.tasks.specs.Sheet.{sheet_of}
 use Rattle.tasks.specs.declared.table.Table.{Table}
 use Rattle.tasks.specs.declared.sheet.Reading.TheVariants as Reading
+use Rattle.tasks.specs.declared.state.State.{State}
 use Rattle.states.specs.Bytes.{state_from, state_bytes}
 use Rattle.session.specs.Session.{empty, fresh, mark_in, call_answer, called}
 use Rattle.session.specs.Record.{blank, session_after, record_after, OnRecord}
@@ -22,8 +24,7 @@ use Rattle.session.specs.declared.marks.Session.{Session}
 use Rattle.session.specs.declared.calls.Call.{Call}
 use Rattle.session.specs.declared.calls.SessionAnswer.{SessionAnswer}
 use Rattle.session.specs.declared.calls.SessionAnswer.TheVariants.{Done, Missed, Refused}
-use Rattle.session_bytes.specs.Space.{place, mark_from, session_from, flags, mark_written, marks_written, session_written, space_by, space_after, sheet_call, sheet_space, calls_space}
-use Rattle.lists.proofs.Bools.{by_bool}
+use Rattle.session_bytes.specs.Space.{place, mark_from, session_from, flags, stored_written, mark_written, marks_written, session_written, space_by, space_after, sheet_call, sheet_space, calls_space}
 use Rattle.lists.proofs.Fill.{eight_same}
 use Rattle.lists.proofs.Digits.{bits_at}
 use Rattle.tasks.proofs.Listed.{read_accepted}
@@ -31,18 +32,21 @@ use Rattle.tasks.proofs.RoundTrip.{read_valid}
 use Rattle.slots.proofs.Bytes.{sets_other, sets_here, state_length, state_read}
 use Rattle.session.proofs.Theorems.{record_law, no_thirteen}
 use Rattle.session.proofs.CallLaws.{not_done}
+use Rattle.session.proofs.MarkLaws.{by_stored}
 use Rattle.session_bytes.proofs.SpaceLaws.{marks_length}
 use Rattle.session_bytes.proofs.CallLaws.{sheet_calls}
-use Rattle.session_bytes.proofs.Plain.{Plain, from_plain, called_plain}
+use Rattle.session_bytes.proofs.Plain.{PlainMark, Plain, from_plain, called_plain}
 
 -- ---- which bytes a mark's writing touches
 
+stored_other : (o : Option State) (j : ℕ) (b : List ℕ) (k : ℕ) → (k < place j) ⊎ (place j + 16 ≤ k) → get_or (stored_written o j b) k 0 ≡ get_or b k 0
+stored_other None j b k h = refl
+stored_other (Some s) j b k h =
+    sets_other (state_bytes s) b (place j) k (subst (λ n. (k < place j) ⊎ (place j + n ≤ k)) (sym (state_length s)) h)
+
 mark_other : (x : Session) (i : ℕ) (b : List ℕ) (k : ℕ) → (k < place (i + 1)) ⊎ (place (i + 1) + 16 ≤ k) → get_or (mark_written x i b) k 0 ≡ get_or b k 0
 unfolding mark_written
-mark_other x i b k h =
-    by_bool (mark_in x i).set
-    (λ e. rw e (sets_other (state_bytes (mark_in x i).state) b (place (i + 1)) k (subst (λ n. (k < place (i + 1)) ⊎ (place (i + 1) + n ≤ k)) (sym (state_length (mark_in x i).state)) h)))
-    (λ e. rw e)
+mark_other x i b k h = stored_other (mark_in x i) (i + 1) b k h
 
 -- bytes before the first mark stay
 marks_before : (x : Session) (n : ℕ) (b : List ℕ) (k : ℕ) → k < 17 → get_or (marks_written x n b) k 0 ≡ get_or b k 0
@@ -51,17 +55,17 @@ marks_before x zero b k h = refl
 marks_before x (suc n) b k h = mark_other x n (marks_written x n b) k (inl (omega arith)) ∙ marks_before x n b k h
 
 mark_here :
-    (x : Session) (i : ℕ) (b : List ℕ) (k : ℕ) → (mark_in x i).set ≡ true → place (i + 1) + 16 ≤ length b → k < 16
-    → get_or (mark_written x i b) (place (i + 1) + k) 0 ≡ get_or (state_bytes (mark_in x i).state) k 0
+    (x : Session) (i : ℕ) (b : List ℕ) (k : ℕ) {s : State} → mark_in x i ≡ Some s → place (i + 1) + 16 ≤ length b → k < 16
+    → get_or (mark_written x i b) (place (i + 1) + k) 0 ≡ get_or (state_bytes s) k 0
 unfolding mark_written
-mark_here x i b k e room h =
-    let n = state_length (mark_in x i).state in
-    rw e (sets_here (state_bytes (mark_in x i).state) b (place (i + 1)) k (omega arith) (omega arith))
+mark_here x i b k {s} e room h =
+    let n = state_length s in
+    rw e (sets_here (state_bytes s) b (place (i + 1)) k (omega arith) (omega arith))
 
 -- the bytes of a mark that is set, after it was written
 marks_here :
-    (x : Session) (n : ℕ) (b : List ℕ) (i k : ℕ) → i < n → n ≤ 8 → (mark_in x i).set ≡ true → 145 ≤ length b → k < 16
-    → get_or (marks_written x n b) (place (i + 1) + k) 0 ≡ get_or (state_bytes (mark_in x i).state) k 0
+    (x : Session) (n : ℕ) (b : List ℕ) (i k : ℕ) {s : State} → i < n → n ≤ 8 → mark_in x i ≡ Some s → 145 ≤ length b → k < 16
+    → get_or (marks_written x n b) (place (i + 1) + k) 0 ≡ get_or (state_bytes s) k 0
 unfolding marks_written
 marks_here x zero b i k h m e room l = absurd (omega arith)
 marks_here x (suc n) b i k h m e room l =
@@ -89,26 +93,26 @@ module _ (x : Session) (b : List ℕ) (plain : Plain x) (room : 145 ≤ length b
       state_read x.present (session_written x b) 1 plain.present.c plain.present.p
       (λ k h. ap (λ n. get_or (session_written x b) n 0) (omega arith) ∙ first_here (suc k) (omega arith))
 
-  flag_back : (i : ℕ) → i < 8 → bit (get_or (session_written x b) 0 0) i ≡ (mark_in x i).set
+  flag_back : (i : ℕ) → i < 8 → bit (get_or (session_written x b) 0 0) i ≡ is_some (mark_in x i)
   unfolding flags
-  flag_back i h = ap (λ n. bit n i) (first_here 0 (omega arith)) ∙ bits_at (λ j. (mark_in x j).set) 8 i h
+  flag_back i h = ap (λ n. bit n i) (first_here 0 (omega arith)) ∙ bits_at (λ j. is_some (mark_in x j)) 8 i h
 
   long : 145 ≤ length (sets b 0 head)
   long = omega (arith, length-sets b 0 head)
 
-  state_back : (i : ℕ) → i < 8 → (mark_in x i).set ≡ true → state_from (session_written x b) (place (i + 1)) ≡ (mark_in x i).state
+  state_back : (i : ℕ) (s : State) → i < 8 → mark_in x i ≡ Some s → state_from (session_written x b) (place (i + 1)) ≡ s
   unfolding session_written
-  state_back i h e =
-      let eight = (plain.marks i h).state in
-      state_read (mark_in x i).state (session_written x b) (place (i + 1)) eight.c eight.p
+  state_back i s h e =
+      let eight = subst PlainMark e (plain.marks i h) in
+      state_read s (session_written x b) (place (i + 1)) eight.c eight.p
       (λ k l. marks_here x 8 (sets b 0 head) i k h (omega arith) e long l)
 
   mark_back : (i : ℕ) → i < 8 → mark_from (session_written x b) i ≡ mark_in x i
   unfolding mark_from
   mark_back i h =
-      by_bool (mark_in x i).set
-      (λ e. rw (flag_back i h, e) (ap₂ (λ f s. record { set = f; state = s }) (sym e) (state_back i h e)))
-      (λ e. rw (flag_back i h, e) (sym ((plain.marks i h).unset e)))
+      by_stored (mark_in x i)
+      (λ e. rw (flag_back i h, e))
+      (λ s e. rw (flag_back i h, e) (ap Some (state_back i s h e)))
 
   -- LAW: a session that is written is read back
   pub written_read : session_from (session_written x b) ≡ x

@@ -1,14 +1,14 @@
 -- A session in 145 bytes, which whoever calls keeps (document 02, §8, for the plotter's C build): a byte of flags, the present state's 16 bytes, then the 16 bytes of each
 -- of eight marks. A state's bytes are those of a slot (Bytes.antt of `states`).
-use Rattle.std.specs.Prelude.{ℕ, zero, suc, ◌+◌, ◌*◌, true, List, [], ◌∷◌, ltb, length, get_or}
+use Rattle.std.specs.Prelude.{ℕ, zero, suc, ◌+◌, ◌*◌, List, [], ◌∷◌, ltb, length, get_or, Option, Some, None, is_some}
 use Rattle.std.proofs.lemmas.List.Edits.{sets}
 use Rattle.lists.specs.Lists.{eight, pick, bits_of}
 use Rattle.tasks.specs.Tick.{bit}
 use Rattle.tasks.specs.Sheet.{sheet_of}
 use Rattle.tasks.specs.declared.sheet.Reading.{Reading}
+use Rattle.tasks.specs.declared.state.State.{State}
 use Rattle.states.specs.Bytes.{state_from, state_bytes}
 use Rattle.session.specs.Session.{empty, mark_in, outcome}
-use Rattle.session.specs.declared.marks.Mark.{Mark}
 use Rattle.session.specs.declared.marks.Session.{Session}
 use Rattle.session.specs.declared.calls.Call.{Call}
 use Rattle.session.specs.declared.calls.Called.{Called}
@@ -22,8 +22,8 @@ place j = 1 + 16 * j
 -- ---- a session read
 
 -- the ith mark, counted from 0: set where bit i of the flags is; the bytes of a mark that is not set are not read
-unfoldable pub mark_from : List ℕ → ℕ → Mark
-mark_from b i = pick (bit (get_or b 0 0) i) (record { set = true; state = state_from b (place (i + 1)) }) empty
+unfoldable pub mark_from : List ℕ → ℕ → Option State
+mark_from b i = pick (bit (get_or b 0 0) i) (Some (state_from b (place (i + 1)))) empty
 
 unfoldable pub session_from : List ℕ → Session
 session_from b = record { present = state_from b (place 0); marks = eight (mark_from b) }
@@ -32,11 +32,16 @@ session_from b = record { present = state_from b (place 0); marks = eight (mark_
 
 -- bit i where the ith mark is set
 unfoldable pub flags : Session → ℕ
-flags x = bits_of 8 (λ i. (mark_in x i).set)
+flags x = bits_of 8 (λ i. is_some (mark_in x i))
 
--- the ith mark's state, where it is set; the bytes of a mark that is not set stay
+-- the state of a mark that is set, as state j; the bytes of a mark that is not set stay
+abbrev pub stored_written : Option State → ℕ → List ℕ → List ℕ
+stored_written None j b = b
+stored_written (Some s) j b = sets b (place j) (state_bytes s)
+
+-- the ith mark's
 unfoldable pub mark_written : Session → ℕ → List ℕ → List ℕ
-mark_written x i b = pick (mark_in x i).set (sets b (place (i + 1)) (state_bytes (mark_in x i).state)) b
+mark_written x i b = stored_written (mark_in x i) (i + 1) b
 
 -- those of the first n marks
 unfoldable pub marks_written : Session → ℕ → List ℕ → List ℕ

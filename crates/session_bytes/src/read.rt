@@ -3,7 +3,8 @@ ghost use Rattle.std.specs.Prelude.{◌≡◌, ◌+◌, ◌<◌, ◌≤◌, leng
 ghost use Rattle.states.specs.Bytes.{state_from};
 ghost use Rattle.session_bytes.specs.Space.{place, mark_from, session_from};
 
-use session::{Mark, Session};
+use session::Session;
+use std::array;
 use tasks::State;
 
 // State j of the nine: 0 the present one, and 1 to 8 those of the marks.
@@ -11,21 +12,15 @@ fn state_at(space: &[u8], j: usize) -> State
     requires { (j < 9) × (145 ≤ length space.now) }
     ensures { result ≡ state_from space.now (place j) }
 {
-    let words = states::words_in(&space[1..], j);
-    State::of_words(words)
+    State::of_words(states::words_in(&space[1..], j))
 }
 
 // The ith mark, counted from 0.
-fn mark_at(space: &[u8], i: usize) -> Mark
+fn mark_at(space: &[u8], i: usize) -> Option<State>
     requires { (i < 8) × (145 ≤ length space.now) }
     ensures { result ≡ mark_from space.now i }
 {
-    if tasks::has_bit(space[0], i) {
-        let state = state_at(space, i + 1);
-        return Mark { set: true, state };
-    }
-    let state = State::start();
-    Mark { set: false, state }
+    tasks::has_bit(space[0], i).then(|| state_at(space, i + 1))
 }
 
 // The session in the first 145 bytes.
@@ -33,13 +28,8 @@ pub(crate) fn read_session(space: &[u8]) -> Session
     requires { 145 ≤ length space.now }
     ensures { result ≡ session_from space.now }
 {
-    let present = state_at(space, 0);
-    let fresh = Session::fresh();
-    let mut marks = fresh.marks;
-    let mut i: usize = 0;
-    while i < 8 {
-        marks[i] = mark_at(space, i);
-        i += 1;
+    Session {
+        present: state_at(space, 0),
+        marks: array::from_fn(|i| mark_at(space, i)),
     }
-    Session { present, marks }
 }

@@ -1,34 +1,23 @@
 // A session written to its bytes. Those of a mark that is not set stay.
 ghost use Rattle.std.specs.Prelude.{◌≡◌, ◌<◌, ◌≤◌, length};
 ghost use Rattle.std.proofs.lemmas.List.Edits.{sets};
-ghost use Rattle.lists.specs.Lists.{pick};
 ghost use Rattle.states.specs.Bytes.{state_bytes};
 ghost use Rattle.session_bytes.specs.Space.{place, flags, mark_written, marks_written, session_written};
 
 use session::Session;
 use tasks::State;
 
-// The weight of a flag that is set, else 0.
-fn weighed(set: bool, weight: u16) -> u16
-    ensures { result ≡ pick set weight 0 }
-{
-    if set { weight } else { 0 }
-}
-
 // Bit i where the ith mark is set.
 fn flags(x: Session) -> u8
     ensures { result ≡ flags x }
 {
-    let mut sum: u16 = 0;
-    let mut weight: u16 = 1;
-    let mut i: usize = 0;
-    while i < 8 {
-        let mark = x.marks[i];
-        sum += weighed(mark.set, weight);
-        weight *= 2;
-        i += 1;
+    let mut flags: u8 = 0;
+    for (i, mark) in x.marks.iter().enumerate() {
+        if mark.is_some() {
+            flags += 1 << i;
+        }
     }
-    sum as u8
+    flags
 }
 
 // Writes state j of the nine: 0 the present one, and 1 to 8 those of the marks.
@@ -36,8 +25,7 @@ fn put_state(space: &mut [u8], j: usize, state: State)
     requires { (j < 9) × (145 ≤ length space.old) }
     ensures { space.new ≡ sets space.old (place j) (state_bytes state) }
 {
-    let at = 1 + 16 * j;
-    slots::write_state(state, &mut space[at..]);
+    slots::write_state(state, &mut space[1 + 16 * j..]);
 }
 
 // Writes the ith mark, counted from 0, where it is set.
@@ -45,10 +33,7 @@ fn put_mark(space: &mut [u8], x: Session, i: usize)
     requires { (i < 8) × (145 ≤ length space.old) }
     ensures { space.new ≡ mark_written x i space.old }
 {
-    let mark = x.marks[i];
-    let state = mark.state;
-    let set = mark.set;
-    if set {
+    if let Some(state) = x.marks[i] {
         put_state(space, i + 1, state);
     }
 }
@@ -58,10 +43,8 @@ fn put_marks(space: &mut [u8], x: Session)
     requires { 145 ≤ length space.old }
     ensures { space.new ≡ marks_written x 8 space.old }
 {
-    let mut i: usize = 0;
-    while i < 8 {
+    for i in 0..8 {
         put_mark(space, x, i);
-        i += 1;
     }
 }
 
@@ -70,8 +53,7 @@ pub(crate) fn write_session(space: &mut [u8], x: Session)
     requires { 145 ≤ length space.old }
     ensures { space.new ≡ session_written x space.old }
 {
-    let present = x.present;
     space[0] = flags(x);
-    put_state(space, 0, present);
+    put_state(space, 0, x.present);
     put_marks(space, x);
 }

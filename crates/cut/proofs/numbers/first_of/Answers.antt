@@ -1,13 +1,10 @@
-use native.Mathlib.Omega.{arith}
-use Rattle.lists.proofs.Fill.{filled_start, filled_store, filled_end}
-use borrow.Author.Rules.{rules}
+use lib.Dec.{ltb}
+use lib.ListN.{get_or}
+use Rattle.std.proofs.Common.{arith}
+use Rattle.std.proofs.lemmas.Grind.{common_steps}
+use Rattle.lists.specs.Lists.{pick}
+use Rattle.lists.proofs.Made.{made}
 use Rattle.cut.proofs.numbers.first_of.Goals as goal
 
-pub loop-i-init : goal.loop-i-init
-loop-i-init c = (omega arith, filled_start (search rules))
-
-pub loop-i-preserved : goal.loop-i-preserved
-loop-i-preserved c = (omega arith, filled_store c.loop-i.invariant.1 c.loop-i-test.true c.among.ensures)
-
 pub returns : goal.returns
-returns c = filled_end c.loop-i.invariant.1 c.loop-i-test.false
+returns c = made _ (λ i. pick (ltb i c.args.k) (get_or c.args.a i 0) 0) (λ i y q l k. grind (arith, common_steps)) c.from_fn.ensures.items

@@ -1,10 +1,6 @@
 -- The invariant: the first i tasks are drawn, and s is the last draw. Assumes nothing.
-use Prim.Native.Nat.{◌-◌, ◌≤◌}
 use Rattle.practice.proofs.DrawLaws.{Drawing}
 use Rattle.practice.proofs.made.draw_table.Given as goal
 
 abbrev pub invariant-loop-i : goal.invariant-loop-i
-invariant-loop-i l = (l.i ≤ l.count) × (l.count ≤ 8) × Drawing l.policy l.m l.n l.seed l.t l.s l.i
-
-abbrev pub decreases-loop-i : goal.decreases-loop-i
-decreases-loop-i l = l.count - l.i
+invariant-loop-i l = Drawing l.policy l.m l.n l.seed l.t l.s l.i

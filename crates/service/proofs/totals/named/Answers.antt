@@ -1,15 +1,7 @@
-use mathlib.Core.Path.{refl}
-use native.Mathlib.Omega.{arith}
-use Rattle.lists.proofs.Fill.{filled_start, filled_store, filled_end}
+use Rattle.std.proofs.Common.{rules}
+use Rattle.lists.proofs.Made.{made}
+use Rattle.tasks.specs.Tick.{bit}
 use Rattle.service.proofs.totals.named.Goals as goal
 
-pub loop-i-init : goal.loop-i-init
-loop-i-init c = (omega arith, filled_start refl)
-
-pub loop-i-preserved : goal.loop-i-preserved
-loop-i-preserved c =
-    let l = c.loop-i in
-    (omega arith, filled_store l.invariant.1 (omega arith) c.has_bit.ensures)
-
 pub returns : goal.returns
-returns c = filled_end c.loop-i.invariant.1 (omega arith)
+returns c = made _ (bit c.args.mask) (λ i y q l k. search rules) c.from_fn.ensures.items

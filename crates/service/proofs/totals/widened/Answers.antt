@@ -1,18 +1,15 @@
-use mathlib.Core.Path.{refl, sym, ◌∙◌}
+use mathlib.Core.Path.{◌≡◌, sym, ◌∙◌}
+use lib.ListN.{length, get_or}
 use lib.Seq.{ext_get_or}
-use native.Mathlib.Omega.{arith}
-use Rattle.lists.proofs.Fill.{filled_start, filled_store}
-use borrow.Author.Rules.{rules}
+use Rattle.std.proofs.Common.{rules}
+use Rattle.lists.specs.Lists.{eight}
+use Rattle.lists.proofs.Fill.{eight_at}
+use Rattle.lists.proofs.Made.{made}
 use Rattle.service.proofs.totals.widened.Goals as goal
-
-pub loop-i-init : goal.loop-i-init
-loop-i-init c = (omega arith, search rules, filled_start refl)
-
-pub loop-i-preserved : goal.loop-i-preserved
-loop-i-preserved c = let l = c.loop-i in (omega arith, l.invariant.1, filled_store l.invariant.2 (omega arith) refl)
 
 pub returns : goal.returns
 returns c =
-    let l = c.loop-i in
-    let n = l.invariant.2.len in
-    ext_get_or 0 l.wide c.args.c (n ∙ sym l.invariant.1) (λ j b. l.invariant.2.done j (omega arith))
+    let a = c.args.c in
+    let len : length a ≡ 8 = search rules in
+    made _ (λ i. get_or a i 0) (λ i y q l k. search rules) c.from_fn.ensures.items
+    ∙ ext_get_or 0 (eight (λ i. get_or a i 0)) a (sym len) (λ i b. eight_at 0 (λ i. get_or a i 0) i b)

@@ -1,62 +1,51 @@
-use Prim.Native.Nat.{ℕ, suc, ◌+◌, ◌^◌}
-use mathlib.Core.Path.{◌≡◌, refl, ap, ◌∙◌}
-use mathlib.Core.Bool.{Bool}
-use lib.ListN.{length}
-use lib.Pow.{pow_mono}
+use Prim.Native.Nat.{ℕ, suc, ◌*◌, ◌%◌, ◌^◌, ◌<◌}
+use mathlib.Core.Path.{◌≡◌, sym, ◌∙◌}
+use mathlib.Core.Bool.{true, false}
 use native.Mathlib.Nat.{pow-suc}
-use Rattle.lists.specs.Lists.{pick}
-use Rattle.lists.proofs.Turns.{bits_none, bits_turn, bits_less, bits_end, pick_most}
-use Rattle.session.specs.Session.{empty, mark_in}
-use Rattle.session.proofs.MarkLaws.{length_mapped, any_default}
-use Rattle.session_bytes.specs.Space.{flags}
+use lib.Pow.{pow_mono, shl_exact}
 use native.Mathlib.Omega.{arith}
-use borrow.Author.Rules.{rules}
+use Rattle.std.specs.Prelude.{is_some}
+use Rattle.lists.proofs.Turns.{bits_none, bits_turn, bits_less}
+use Rattle.session.specs.Session.{mark_in}
+use Rattle.session_bytes.specs.Space.{flags}
 use Rattle.session_bytes.proofs.write.flags.Goals as goal
+use Rattle.session_bytes.proofs.write.flags.Goals.{then-is_some, else-is_some}
+
+-- 1 << i, as a byte is shifted
+unit : (i : ℕ) → i < 8 → 1 * 2 ^ i % 256 ≡ 2 ^ i
+unit i h = let e : 1 * 2 ^ i % 2 ^ 8 ≡ 1 * 2 ^ i = shl_exact {a = 1} 1 i 8 (omega arith) (omega arith) in e ∙ omega arith
 
 pub loop-i-init : goal.loop-i-init
-loop-i-init c = (omega arith, refl, bits_none (λ k. (mark_in c.args.x k).set))
+loop-i-init c = bits_none (λ k. is_some (mark_in c.args.x k))
 
-pub overflow_add-sum : goal.overflow_add-sum
-overflow_add-sum c =
+pub overflow_add-flags : goal.overflow_add-flags
+overflow_add-flags c =
     let h = c.loop-i in
-    let p : ℕ → Bool = λ k. (mark_in c.args.x k).set in
     omega (
       arith,
-      (let it : c.weighed-sum.result ≡ pick (mark_in c.args.x c.loop-i.i).set c.loop-i.weight 0 = let a = c.args in
-          let len : length a.x.marks ≡ 8 = search (rules, length_mapped) in
-          c.weighed-sum.ensures ∙ ap (λ mark. pick mark.set c.loop-i.weight 0) (any_default _ empty a.x.marks c.loop-i.i (omega arith)) in it),
-      h.invariant.1,
-      h.invariant.2,
-      bits_less p h.i,
-      pow_mono {i = h.i} {j = 8} h.invariant.0,
-      pick_most (p h.i) h.weight,
+      h.invariant,
+      unit h.i c.loop-i-test.true,
+      bits_less (λ k. is_some (mark_in c.args.x k)) h.i,
+      pow-suc 2 h.i,
+      pow_mono {i = suc h.i} {j = 8} (omega arith),
     )
-
-pub overflow_mul-weight : goal.overflow_mul-weight
-overflow_mul-weight c =
-    let h = c.loop-i in
-    omega (arith, h.invariant.1, pow_mono {i = h.i} {j = 8} h.invariant.0)
 
 pub loop-i-preserved : goal.loop-i-preserved
 loop-i-preserved c =
     let h = c.loop-i in
-    let e : 2 ^ (h.i + 1) ≡ 2 ^ suc h.i = ap (λ k. 2 ^ k) (omega arith) in
-    let turn = bits_turn (λ k. (mark_in c.args.x k).set) h.i h.invariant.2 h.invariant.1 in (
-      omega arith,
-      omega (arith, e, h.invariant.1, pow-suc 2 h.i),
-      rw (let it : c.weighed-sum.result ≡ pick (mark_in c.args.x c.loop-i.i).set c.loop-i.weight 0 = let a = c.args in
-          let len : length a.x.marks ≡ 8 = search (rules, length_mapped) in
-          c.weighed-sum.ensures ∙ ap (λ mark. pick mark.set c.loop-i.weight 0) (any_default _ empty a.x.marks c.loop-i.i (omega arith)) in it) turn,
-    )
-
-pub overflow_cast-result : goal.overflow_cast-result
-overflow_cast-result c =
-    let h = c.loop-i in
-    omega
-    (arith, h.invariant.2, bits_less (λ k. (mark_in c.args.x k).set) h.i, pow_mono {i = h.i} {j = 8} h.invariant.0)
+    let turn = bits_turn (λ k. is_some (mark_in c.args.x k)) h.i h.invariant (unit h.i c.loop-i-test.true) in
+    elim c.if-is_some.branch [
+      | then-is_some w ↦
+          let set : is_some (mark_in c.args.x h.i) ≡ true = sym c.is_some.ensures ∙ w.if-is_some.true in
+          w.flags-is ∙ rw set at turn
+      | else-is_some w ↦
+          let unset : is_some (mark_in c.args.x h.i) ≡ false = sym c.is_some.ensures ∙ w.if-is_some.false in
+          omega (arith, w.flags-is, rw unset at turn)
+    ]
 
 pub returns : goal.returns
 unfolding flags
 returns c =
     let h = c.loop-i in
-    bits_end (λ k. (mark_in c.args.x k).set) h.invariant.2 h.invariant.0 c.loop-i-test.false
+    let e : h.i ≡ 8 = omega arith in
+    rw e at h.invariant

@@ -1,29 +1,19 @@
 use Prim.Native.Nat.{◌+◌}
-use mathlib.Core.Path.{◌≡◌, sym, ap, refl, ◌∙◌}
-use lib.ListN.{length}
-use lib.Seq.{sets}
-use Rattle.lists.proofs.Picks.{pick_in, pick_no}
-use Rattle.states.specs.Bytes.{state_bytes}
-use Rattle.session.specs.Session.{empty}
-use Rattle.session.proofs.MarkLaws.{length_mapped, any_default}
-use Rattle.session_bytes.specs.Space.{place, mark_written}
-use native.Mathlib.Omega.{arith}
-use borrow.Author.Rules.{rules}
+use mathlib.Core.Path.{sym, ap, ◌∙◌}
+use lib.ListN.{get_or}
+use Rattle.std.specs.Prelude.{None}
+use Rattle.session.proofs.MarkLaws.{by_stored}
+use Rattle.session_bytes.specs.Space.{stored_written, mark_written}
 use Rattle.session_bytes.proofs.write.put_mark.Goals as goal
 
-pub returns-then-set : goal.returns-then-set
+pub returns-in-Some : goal.returns-in-Some
 unfolding mark_written
-returns-then-set c =
+returns-in-Some c =
     let a = c.args in
-    let len : length a.x.marks ≡ 8 = search (rules, length_mapped) in
-    let m = any_default _ empty a.x.marks a.i (omega (arith, c.requires)) in
-    pick_in _ (ap (λ mark. mark.set) (sym m) ∙ c.if-set.true)
-    (c.put_state.ensures ∙ ap (λ mark. sets a.space.now (place (a.i + 1)) (state_bytes mark.state)) m)
+    c.put_state.ensures ∙ ap (λ o. stored_written o (a.i + 1) a.space.now) (sym c.in-Some.is)
 
-pub returns-else-set : goal.returns-else-set
+pub returns-in_default : goal.returns-in_default
 unfolding mark_written
-returns-else-set c =
+returns-in_default c =
     let a = c.args in
-    let len : length a.x.marks ≡ 8 = search (rules, length_mapped) in
-    let m = any_default _ empty a.x.marks a.i (omega (arith, c.requires)) in
-    pick_no _ (ap (λ mark. mark.set) (sym m) ∙ c.if-set.false) refl
+    by_stored (get_or a.x.marks a.i None) (λ e. rw e) (λ s e. absurd (c.in_default.not-Some s e))

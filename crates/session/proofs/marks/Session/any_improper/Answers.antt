@@ -1,15 +1,6 @@
+use Rattle.std.proofs.Common.{rules}
 use Rattle.session.specs.Session.{improper_mark}
-use Rattle.lists.proofs.Turns.{any_none, any_turn, any_end}
-use native.Mathlib.Omega.{arith}
 use Rattle.session.proofs.marks.Session.any_improper.Goals as goal
 
-pub loop-i-init : goal.loop-i-init
-loop-i-init c = (omega arith, any_none (improper_mark c.args.t c.args.self))
-
-pub loop-i-preserved : goal.loop-i-preserved
-loop-i-preserved c =
-    (omega arith, any_turn (improper_mark c.args.t c.args.self) c.loop-i.i c.loop-i.invariant.1 c.improper_mark-found.ensures)
-
 pub returns : goal.returns
-returns c =
-    any_end (improper_mark c.args.t c.args.self) c.loop-i.invariant.1 c.loop-i.invariant.0 c.loop-i-test.false
+returns c = c.any_place.ensures (improper_mark c.args.t c.args.self) (λ i b h k. search rules)

@@ -4,5 +4,4 @@ use Rattle.session.proofs.marks.Session.return_to.Goals as goal
 
 pub returns : goal.returns
 unfolding returned
-returns c =
-    called_told (rw (← c.return_refusal-why.ensures, ← c.mark-mark.ensures, ← c.at_mark-after.ensures) c.unless_refused.ensures)
+returns c = called_told (rw (← c.return_refusal.ensures, ← c.at_mark.ensures) c.unless_refused.ensures)

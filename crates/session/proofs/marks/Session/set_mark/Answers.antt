@@ -4,4 +4,4 @@ use Rattle.session.proofs.marks.Session.set_mark.Goals as goal
 
 pub returns : goal.returns
 unfolding mark_set
-returns c = called_told (rw (← c.set_refusal-why.ensures, ← c.marked-after.ensures) c.unless_refused.ensures)
+returns c = called_told (rw (← c.set_refusal.ensures, ← c.marked.ensures) c.unless_refused.ensures)
