@@ -8,13 +8,16 @@ use lib.ListN.{length, get_or}
 use borrow.Author.Tests.{lt-ltb, le-ltb, ltb-true, ltb-false}
 use Rattle.lists.specs.Lists.{pick}
 use Rattle.lists.proofs.Bools.{by_bool, nor_left, nor_right}
+use Rattle.std.specs.Prelude.{Ok, Err}
 use Rattle.tasks.specs.Table.{table_fault}
 use Rattle.tasks.specs.State.{start}
-use Rattle.tasks.specs.Sheet.{refused_with, accepted_as, sheet_of, sheet_bytes}
+use Rattle.tasks.specs.Sheet.{sheet_of, sheet_bytes}
 use Rattle.tasks.specs.declared.table.Table.{Table}
-use Rattle.tasks.specs.declared.sheet.Reading.TheVariants as Reading
-use Rattle.tasks.proofs.Answers.{unless_refused_lem, unless_none, refused_unless, accepted_unless}
-use Rattle.tasks.proofs.Tables.{FitTask, Valid, valid, not_refused, pick_zero}
+use Rattle.tasks.specs.Refusals.{refusal_number, refusal_at, unless_refused}
+use Rattle.tasks.specs.declared.refusal.Refusal.{Refusal}
+use Rattle.tasks.specs.declared.refusal.Refusal.TheVariants.{TaskCount}
+use Rattle.tasks.proofs.Refusals.{pick_case, Named, refused_at, unless_none, refused_unless, accepted_unless, refused_number, refused_same}
+use Rattle.tasks.proofs.Tables.{FitTask, Valid, valid, not_refused, pick_zero, fault_number}
 use Rattle.tasks.proofs.Sheets.{sheet_short}
 use Rattle.tasks.proofs.RoundTrip.{Eight, write_read}
 use Rattle.cut.specs.Cut.{cut_table, cut_refusal, cut_of}
@@ -81,7 +84,7 @@ module _ (t : Table) (k : ℕ) where
     pub cut_short : length (sheet_bytes (cut_table k t)) ≤ 52
     cut_short = sheet_short (cut_table k t) cut_valid
 
-    pub cut_read : sheet_of (sheet_bytes (cut_table k t)) ≡ accepted_as (cut_table k t)
+    pub cut_read : sheet_of (sheet_bytes (cut_table k t)) ≡ Ok (cut_table k t)
     cut_read = write_read (cut_table k t) cut_eight cut_valid
 
     -- THEOREM: the calls: a table that is cut to k and then to j ≤ k answers as the table cut to j, a j of 0 too
@@ -102,23 +105,33 @@ module _ (t : Table) (k : ℕ) where
   unfolding cut_refusal
   refusal_outside fine = rw fine
 
-  pub answer_fault : {r : ℕ} → r ≡ table_fault t → 0 < r → refused_with r ≡ cut_of t k
+  pub answer_fault : {r : Refusal} → unless_refused (table_fault t) (tt {0}) ≡ Err r → Err r ≡ cut_of t k
   unfolding cut_of
-  answer_fault {r} e h = rw (refusal_fault (rw e at h), sym e) (unless_refused_lem (cut_table k t) h)
+  answer_fault h = refused_same (tt {0}) (cut_table k t) (sym (refusal_fault (refused_unless (table_fault t) (tt {0}) h).0)) h
 
-  pub answer_outside : table_fault t ≡ 0 → ltb k 1 || ltb t.n k ≡ true → refused_with 6 ≡ cut_of t k
+  pub answer_outside : table_fault t ≡ 0 → ltb k 1 || ltb t.n k ≡ true → Err TaskCount ≡ cut_of t k
   unfolding cut_of
-  answer_outside fine e = rw (refusal_outside fine, e) (unless_refused_lem (cut_table k t) (omega arith))
+  answer_outside fine e = refused_at TaskCount (cut_table k t) (sym (rw e at (refusal_outside fine)))
 
-  pub answer_cut : table_fault t ≡ 0 → ltb k 1 || ltb t.n k ≡ false → accepted_as (cut_table k t) ≡ cut_of t k
+  pub answer_cut : table_fault t ≡ 0 → ltb k 1 || ltb t.n k ≡ false → Ok (cut_table k t) ≡ cut_of t k
   unfolding cut_of
-  answer_cut fine e = unless_none (cut_table k t) (rw (refusal_outside fine, e))
+  answer_cut fine e = unless_none (cut_table k t) (sym (rw e at (refusal_outside fine)))
+
+  six : 6 ≡ refusal_number (refusal_at 6)
+  unfolding refusal_at
+  six = refl
+
+  refusal_named : Named (cut_refusal t k)
+  unfolding cut_refusal
+  refusal_named =
+      pick_case Named (ltb 0 (table_fault t)) (fault_number t)
+      (pick_case Named (ltb k 1 || ltb t.n k) {x = 6} {y = 0} (λ h. six) (λ h. absurd (omega arith)))
 
   -- and back
-  pub answer_refused : {r : ℕ} → (cut_of t k).answer ≡ Reading.Refused r → (0 < r) × (cut_refusal t k ≡ r)
+  pub answer_refused : {r : Refusal} → cut_of t k ≡ Err r → cut_refusal t k ≡ refusal_number r
   unfolding cut_of
-  answer_refused e = refused_unless (cut_refusal t k) (cut_table k t) e
+  answer_refused e = refused_number (cut_refusal t k) (cut_table k t) refusal_named e
 
-  pub answer_accepted : (cut_of t k).answer ≡ Reading.Accepted → (cut_refusal t k ≡ 0) × ((cut_of t k).table ≡ cut_table k t)
+  pub answer_accepted : {u : Table} → cut_of t k ≡ Ok u → (cut_refusal t k ≡ 0) × (u ≡ cut_table k t)
   unfolding cut_of
   answer_accepted e = accepted_unless (cut_refusal t k) (cut_table k t) e

@@ -9,12 +9,13 @@ use lib.ListN.{length}
 use borrow.Author.Tests.{ltb-true, ltb-false}
 use Rattle.lists.specs.Lists.{pick}
 use Rattle.lists.proofs.Bools.{by_bool}
+use Rattle.std.specs.Prelude.{Ok}
 use Rattle.tasks.specs.State.{start, improper}
 use Rattle.tasks.specs.Tick.{illegal, after, missed, refusal, answered, ticked}
 use Rattle.tasks.specs.Replay.{played, replayed}
 use Rattle.tasks.specs.declared.state.State.{State}
 use Rattle.tasks.specs.declared.table.Table.{Table}
-use Rattle.tasks.specs.declared.tick.TickAnswer.TheVariants as Tick
+use Rattle.tasks.specs.declared.tick.Step.TheVariants as Tick
 use Rattle.tasks.specs.declared.play.Outcome.TheVariants.{Kept, Missed}
 use Rattle.tasks.specs.declared.play.ReplayAnswer.TheVariants.{Played}
 use Rattle.tasks.proofs.Answered.{ticked_refused, refusal_passed, ticked_legal, next_passed}
@@ -28,7 +29,7 @@ use Rattle.cut.proofs.TableLaws.{Cut, not_cut_refused, cut_valid}
 
 -- a tick that misses was given a proper state and a legal mask, and has the state after step 4
 missed_passed :
-    (t : Table) (s : State) (mask : ℕ) → (ticked t s mask).answer ≡ Tick.Missed
+    (t : Table) (s : State) (mask : ℕ) → (ticked t s mask).answer ≡ (Ok Tick.Missed)
     → (improper t s ≡ false) × (illegal t s mask ≡ false) × ((ticked t s mask).state ≡ after t s mask)
 missed_passed t s mask e =
     by_bool (ltb 0 (refusal t s mask))
@@ -44,16 +45,16 @@ module _ (t : Table) (k : ℕ) (fixed : t.policy ≡ 1) (x : Cut t k) where
   cut_tick :
       (s : State) (mask : ℕ) → improper t s ≡ false → illegal t s mask ≡ false
       → ticked (cut_table k t) (cut_state k s) (cut_mask k mask)
-      ≡ answered (pick (missed (cut_table k t) (cut_state k (after t s mask))) Tick.Missed Tick.Next) (cut_state k (after t s mask))
+      ≡ answered (Ok (pick (missed (cut_table k t) (cut_state k (after t s mask))) Tick.Missed Tick.Next)) (cut_state k (after t s mask))
   cut_tick s mask proper legal =
       let e : after (cut_table k t) (cut_state k s) (cut_mask k mask) ≡ cut_state k (after t s mask) = cut_after k t fixed s (low_bits k mask) in
       ticked_legal (cut_table k t) (cut_state k s) (cut_mask k mask) (cut_valid t k x) (cut_proper k t s proper) (cut_legal k t s mask (low_bits k mask) legal)
-      ∙ ap (λ u. answered (pick (missed (cut_table k t) u) Tick.Missed Tick.Next) u) e
+      ∙ ap (λ u. answered (Ok (pick (missed (cut_table k t) u) Tick.Missed Tick.Next)) u) e
 
   -- a tick that neither refuses nor misses does neither in the cut
   cut_ticked :
-      (s : State) (mask : ℕ) → (ticked t s mask).answer ≡ Tick.Next
-      → ticked (cut_table k t) (cut_state k s) (cut_mask k mask) ≡ answered Tick.Next (cut_state k (ticked t s mask).state)
+      (s : State) (mask : ℕ) → (ticked t s mask).answer ≡ (Ok Tick.Next)
+      → ticked (cut_table k t) (cut_state k s) (cut_mask k mask) ≡ answered (Ok Tick.Next) (cut_state k (ticked t s mask).state)
   cut_ticked s mask next =
       let f = next_passed t s mask next in
       cut_tick s mask f.proper f.legal ∙ rw (cut_missed k t (after t s mask) f.calm, f.state)
@@ -78,7 +79,7 @@ module _ (t : Table) (k : ℕ) (fixed : t.policy ≡ 1) (x : Cut t k) where
 
   -- one mask more, by what its tick answers
   one_more :
-      (s : State) (i mask : ℕ) (u : State) → ticked (cut_table k t) s mask ≡ answered (pick (missed (cut_table k t) u) Tick.Missed Tick.Next) u
+      (s : State) (i mask : ℕ) (u : State) → ticked (cut_table k t) s mask ≡ answered (Ok (pick (missed (cut_table k t) u) Tick.Missed Tick.Next)) u
       → played (cut_table k t) s i (mask ∷ []) ≡ record { answer = Played (pick (missed (cut_table k t) u) (Missed (i + 1)) Kept); state = u }
   unfolding played
   one_more s i mask u e = rw e (by_bool (missed (cut_table k t) u) (λ m. rw m) (λ m. rw m))
@@ -94,7 +95,7 @@ cut_kept t k fixed none l s e =
 -- THEOREM: .. and where a list is Kept and one mask more misses, the cut list has the cut state too, and is Missed at that tick or Kept, as one of the first k
 -- tasks is late or none
 pub cut_last :
-    (t : Table) (k : ℕ) → t.policy ≡ 1 → cut_refusal t k ≡ 0 → (l : List ℕ) (s : State) (mask : ℕ) → replayed t l ≡ kept s → (ticked t s mask).answer ≡ Tick.Missed
+    (t : Table) (k : ℕ) → t.policy ≡ 1 → cut_refusal t k ≡ 0 → (l : List ℕ) (s : State) (mask : ℕ) → replayed t l ≡ kept s → (ticked t s mask).answer ≡ (Ok Tick.Missed)
     → replayed (cut_table k t) (cut_list k (l ++ (mask ∷ [])))
     ≡ record {
       answer = Played (pick (missed (cut_table k t) (cut_state k (ticked t s mask).state)) (Missed (length l + 1)) Kept);

@@ -1,11 +1,12 @@
 -- Cutting at a priority (document 02, §9): the first k tasks of a table, and with them the cut of a state, of a mask and of a list.
 use Rattle.std.specs.Prelude.{ℕ, ◌%◌, ◌^◌, List, [], ◌∷◌, ◌||◌, ltb, get_or}
 use Rattle.lists.specs.Lists.{pick, front}
+use Rattle.std.specs.Prelude.{Result}
+use Rattle.tasks.specs.declared.refusal.Refusal.{Refusal}
 use Rattle.tasks.specs.Table.{table_fault}
-use Rattle.tasks.specs.Sheet.{unless_refused}
+use Rattle.tasks.specs.Refusals.{unless_refused}
 use Rattle.tasks.specs.declared.state.State.{State}
 use Rattle.tasks.specs.declared.table.Table.{Table}
-use Rattle.tasks.specs.declared.sheet.Sheet.{Sheet}
 
 -- ---- the cut to k
 
@@ -45,5 +46,5 @@ unfoldable pub cut_refusal : Table → ℕ → ℕ
 cut_refusal t k = pick (ltb 0 (table_fault t)) (table_fault t) (pick (ltb k 1 || ltb t.n k) 6 0)
 
 -- the refusal, or the cut table
-unfoldable pub cut_of : Table → ℕ → Sheet
+unfoldable pub cut_of : Table → ℕ → Result Table Refusal
 cut_of t k = unless_refused (cut_refusal t k) (cut_table k t)

@@ -1,10 +1,9 @@
 // Tables and states that are cut.
 ghost use Rattle.std.specs.Prelude.{◌≡◌};
-ghost use Rattle.tasks.specs.Answers.{sheet_answer};
 ghost use Rattle.cut.specs.Cut.{cut_table, cut_state, cut_of};
 
 use crate::numbers::first_of;
-use tasks::{Reading, Sheet, State, Table};
+use tasks::{Refusal, State, Table};
 
 // The first k tasks of a table, for any table and k.
 fn first_tasks(t: Table, k: u8) -> Table
@@ -21,20 +20,14 @@ fn first_tasks(t: Table, k: u8) -> Table
 }
 
 // The table cut to its first k tasks: 4 to 7 for the table, then 6 where k is outside 1 to n.
-pub fn cut_table(t: Table, k: u8) -> Sheet
-    ensures { (sheet_answer result ≡ sheet_answer (cut_of t k)) × (result.table ≡ (cut_of t k).table) }
+pub fn cut_table(t: Table, k: u8) -> Result<Table, Refusal>
+    ensures { result ≡ cut_of t k }
 {
-    let fault = t.fault();
-    if 0 < fault {
-        return tasks::refused(fault);
-    }
+    t.check()?;
     if !(1..=t.n).contains(&k) {
-        return tasks::refused(6);
+        return Err(Refusal::TaskCount);
     }
-    Sheet {
-        answer: Reading::Accepted,
-        table: first_tasks(t, k),
-    }
+    Ok(first_tasks(t, k))
 }
 
 // A state cut to the first k tasks, for any state and k.

@@ -8,14 +8,16 @@ use lib.Dec.{ltb}
 use lib.ListN.{length}
 use borrow.Author.Tests.{ltb-false, ne_eqb}
 use Rattle.lists.proofs.Bools.{by_bool}
+use Rattle.std.specs.Prelude.{Result, Ok, Err}
+use Rattle.tasks.specs.declared.refusal.Refusal.{Refusal}
 use Rattle.tasks.specs.Table.{table_fault}
 use Rattle.tasks.specs.State.{start, improper}
 use Rattle.tasks.specs.Tick.{ticked}
 use Rattle.tasks.specs.Replay.{play_next, played, replayed, played_from}
 use Rattle.tasks.specs.declared.state.State.{State}
 use Rattle.tasks.specs.declared.table.Table.{Table}
-use Rattle.tasks.specs.declared.tick.TickAnswer.{TickAnswer}
-use Rattle.tasks.specs.declared.tick.TickAnswer.TheVariants as Tick
+use Rattle.tasks.specs.declared.tick.Step.{Step}
+use Rattle.tasks.specs.declared.tick.Step.TheVariants as Tick
 use Rattle.tasks.specs.declared.play.Outcome.TheVariants.{Kept, Missed}
 use Rattle.tasks.specs.declared.play.ReplayAnswer.{ReplayAnswer}
 use Rattle.tasks.specs.declared.play.ReplayAnswer.TheVariants.{Played, Refused}
@@ -31,12 +33,12 @@ unfolding raised_tick
 tick_raised k n = rw (ne_eqb (n + 1) 0 (λ e. omega arith)) (omega arith)
 
 next_raised :
-    (k n : ℕ) (s s' : State) (more rest : Replayed) (a : TickAnswer) → (a ≡ Tick.Next → more ≡ raised k rest)
+    (k n : ℕ) (s s' : State) (more rest : Replayed) (a : Result Step Refusal) → (a ≡ (Ok Tick.Next) → more ≡ raised k rest)
     → play_next (k + n + 1) s s' more a ≡ raised k (play_next (n + 1) s s' rest a)
 unfolding raised_answer raised_outcome
-next_raised k n s s' more rest Tick.Next f = f refl
-next_raised k n s s' more rest Tick.Missed f = ap (λ i. record { answer = Played (Missed i); state = s' }) (sym (tick_raised k n))
-next_raised k n s s' more rest (Tick.Refused r) f = ap (λ i. record { answer = Refused r i; state = s }) (sym (tick_raised k n))
+next_raised k n s s' more rest (Ok Tick.Next) f = f refl
+next_raised k n s s' more rest (Ok Tick.Missed) f = ap (λ i. record { answer = Played (Missed i); state = s' }) (sym (tick_raised k n))
+next_raised k n s s' more rest (Err r) f = ap (λ i. record { answer = Refused r i; state = s }) (sym (tick_raised k n))
 
 module _ (t : Table) where
   played_raised : (s : State) (k n : ℕ) (l : List ℕ) → played t s (k + n) l ≡ raised k (played t s n l)
@@ -65,11 +67,11 @@ module _ (t : Table) where
 
 -- a list that is not Kept: no mask after it is read
 next_ended :
-    (k : ℕ) (s s' : State) (more rest : Replayed) (a : TickAnswer) → (a ≡ Tick.Next → (rest.answer ≡ Played Kept → ⊥) → more ≡ rest)
+    (k : ℕ) (s s' : State) (more rest : Replayed) (a : Result Step Refusal) → (a ≡ (Ok Tick.Next) → (rest.answer ≡ Played Kept → ⊥) → more ≡ rest)
     → ((play_next k s s' rest a).answer ≡ Played Kept → ⊥) → play_next k s s' more a ≡ play_next k s s' rest a
-next_ended k s s' more rest Tick.Next f h = f refl h
-next_ended k s s' more rest Tick.Missed f h = refl
-next_ended k s s' more rest (Tick.Refused r) f h = refl
+next_ended k s s' more rest (Ok Tick.Next) f h = f refl h
+next_ended k s s' more rest (Ok Tick.Missed) f h = refl
+next_ended k s s' more rest (Err r) f h = refl
 
 module _ (t : Table) where
   played_ended : (s : State) (k : ℕ) (l l' : List ℕ) → ((played t s k l).answer ≡ Played Kept → ⊥) → played t s k (l ++ l') ≡ played t s k l

@@ -1,6 +1,5 @@
 // A list played from a state, with a number of ticks before it.
 ghost use Rattle.std.specs.Prelude.{◌≡◌, ◌^◌, ◌<◌};
-ghost use Rattle.tasks.specs.Answers.{replay_answer};
 ghost use Rattle.tasks.specs.Replay.{played_from, outcome_tick};
 ghost use Rattle.joined.specs.Raised.{raised_tick, raised_outcome};
 
@@ -31,19 +30,15 @@ fn raised_outcome(before: u32, o: Outcome) -> Outcome
 // A list played from a state, for any table and state, after a number of ticks: 4 to 7, then 13, then as a replay from that state, with its tick numbers
 // raised by the ticks before.
 pub fn play_after(t: Table, s: State, before: u32, masks: &[u8]) -> Replayed
-    ensures { (replay_answer result ≡ replay_answer (played_from t s before masks.now)) × (result.state ≡ (played_from t s before masks.now).state) }
+    ensures { result ≡ played_from t s before masks.now }
 {
     let played = tasks::play_on(t, s, masks);
-    let answer = played.answer;
-    let state = played.state;
-    match answer {
-        ReplayAnswer::Refused(r, tick) => Replayed {
-            answer: ReplayAnswer::Refused(r, raised_tick(before, tick)),
-            state,
-        },
-        ReplayAnswer::Played(o) => Replayed {
-            answer: ReplayAnswer::Played(raised_outcome(before, o)),
-            state,
-        },
+    let answer = match played.answer {
+        ReplayAnswer::Refused(r, tick) => ReplayAnswer::Refused(r, raised_tick(before, tick)),
+        ReplayAnswer::Played(o) => ReplayAnswer::Played(raised_outcome(before, o)),
+    };
+    Replayed {
+        answer,
+        state: played.state,
     }
 }

@@ -7,11 +7,14 @@ use lib.ListN.{length}
 use Rattle.lists.proofs.Bools.{by_bool}
 use Rattle.lists.proofs.Counts.{none_any}
 use Rattle.lists.proofs.Fill.{front_at}
+use Rattle.std.specs.Prelude.{Ok, Err}
 use Rattle.tasks.specs.Table.{fault_at, table_fault}
-use Rattle.tasks.specs.Sheet.{refused_with, accepted_as, sheet_of, sheet_bytes}
-use Rattle.tasks.specs.declared.sheet.Reading.TheVariants as Reading
-use Rattle.tasks.proofs.Answers.{unless_refused_lem, unless_none, refused_unless, accepted_unless}
-use Rattle.tasks.proofs.Tables.{task_fits}
+use Rattle.tasks.specs.Sheet.{sheet_of, sheet_bytes}
+use Rattle.tasks.specs.Refusals.{refusal_number, unless_refused}
+use Rattle.tasks.specs.declared.refusal.Refusal.{Refusal}
+use Rattle.tasks.specs.declared.table.Table.{Table}
+use Rattle.tasks.proofs.Refusals.{Named, unless_none, accepted_unless, refused_number, refused_same}
+use Rattle.tasks.proofs.Tables.{task_fits, fault_number}
 use Rattle.tasks.proofs.Sheets.{sheet_short}
 use Rattle.tasks.proofs.RoundTrip.{Eight, write_read}
 use Rattle.practice.specs.Practice.{gap_drawn, deadline_drawn, work_drawn, practice_table, practice_refusal, practice_of}
@@ -35,22 +38,23 @@ module _ (policy m n s : ℕ) where
   practice_valid e = practice_fault ∙ e
 
   -- what the call answers, by what the judge says of the table
-  pub practice_refused : {r : ℕ} → 0 < r → r ≡ table_fault (practice_table policy m n s) → refused_with r ≡ practice_of policy m n s
+  pub practice_refused : {r : Refusal} → unless_refused (table_fault (practice_table policy m n s)) (tt {0}) ≡ Err r → Err r ≡ practice_of policy m n s
   unfolding practice_of
-  practice_refused {r} h e =
-      let q : practice_refusal policy m n ≡ r = sym (e ∙ practice_fault) in
-      rw q (unless_refused_lem (practice_table policy m n s) h)
+  practice_refused h = refused_same (tt {0}) (practice_table policy m n s) practice_fault h
 
-  pub practice_made : table_fault (practice_table policy m n s) ≡ 0 → accepted_as (practice_table policy m n s) ≡ practice_of policy m n s
+  pub practice_made : table_fault (practice_table policy m n s) ≡ 0 → Ok (practice_table policy m n s) ≡ practice_of policy m n s
   unfolding practice_of
-  practice_made e = unless_none (practice_table policy m n s) (sym practice_fault ∙ e)
+  practice_made e = unless_none (practice_table policy m n s) (sym (sym practice_fault ∙ e))
+
+  refusal_named : Named (practice_refusal policy m n)
+  refusal_named = rw (← practice_fault) (fault_number (practice_table policy m n s))
 
   -- and back: a refusal is that of the first three numbers, and a table that is made is the practice table
-  pub answer_refused : {r : ℕ} → (practice_of policy m n s).answer ≡ Reading.Refused r → (0 < r) × (practice_refusal policy m n ≡ r)
+  pub answer_refused : {r : Refusal} → practice_of policy m n s ≡ Err r → practice_refusal policy m n ≡ refusal_number r
   unfolding practice_of
-  answer_refused e = refused_unless (practice_refusal policy m n) (practice_table policy m n s) e
+  answer_refused e = refused_number (practice_refusal policy m n) (practice_table policy m n s) refusal_named e
 
-  pub answer_made : (practice_of policy m n s).answer ≡ Reading.Accepted → (practice_of policy m n s).table ≡ practice_table policy m n s
+  pub answer_made : {t : Table} → practice_of policy m n s ≡ Ok t → t ≡ practice_table policy m n s
   unfolding practice_of
   answer_made e = (accepted_unless (practice_refusal policy m n) (practice_table policy m n s) e).1
 
@@ -63,5 +67,5 @@ module _ (policy m n s : ℕ) where
   practice_short e = sheet_short (practice_table policy m n s) (practice_valid e)
 
   -- THEOREM: and is read as that table
-  pub practice_read : practice_refusal policy m n ≡ 0 → sheet_of (sheet_bytes (practice_table policy m n s)) ≡ accepted_as (practice_table policy m n s)
+  pub practice_read : practice_refusal policy m n ≡ 0 → sheet_of (sheet_bytes (practice_table policy m n s)) ≡ Ok (practice_table policy m n s)
   practice_read e = write_read (practice_table policy m n s) practice_eight (practice_valid e)

@@ -1,10 +1,11 @@
 -- Practice tables (document 02, §7): a table that anyone can make again from policy, m, n and a number s of 16 bits. Tasks are counted from 0.
 use Rattle.std.specs.Prelude.{ℕ, zero, suc, ◌+◌, ◌*◌, ◌%◌, ltb}
 use Rattle.lists.specs.Lists.{pick, front}
+use Rattle.std.specs.Prelude.{Result}
+use Rattle.tasks.specs.declared.refusal.Refusal.{Refusal}
 use Rattle.tasks.specs.Table.{last_policy, outside}
-use Rattle.tasks.specs.Sheet.{unless_refused}
+use Rattle.tasks.specs.Refusals.{unless_refused}
 use Rattle.tasks.specs.declared.table.Table.{Table}
-use Rattle.tasks.specs.declared.sheet.Sheet.{Sheet}
 
 -- ---- the draws
 
@@ -50,5 +51,5 @@ unfoldable pub practice_refusal : ℕ → ℕ → ℕ → ℕ
 practice_refusal policy m n = pick (ltb last_policy policy) 4 (pick (outside m) 5 (pick (outside n) 6 0))
 
 -- what the call answers: the refusal, or the table
-unfoldable pub practice_of : ℕ → ℕ → ℕ → ℕ → Sheet
+unfoldable pub practice_of : ℕ → ℕ → ℕ → ℕ → Result Table Refusal
 practice_of policy m n s = unless_refused (practice_refusal policy m n) (practice_table policy m n s)

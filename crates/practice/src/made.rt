@@ -1,10 +1,9 @@
 // The table that is made of the draws, and its refusals.
 ghost use Rattle.std.specs.Prelude.{◌≡◌};
-ghost use Rattle.tasks.specs.Answers.{sheet_answer};
 ghost use Rattle.practice.specs.Practice.{practice_table, practice_of};
 
 use crate::draws::{drawn, task_of};
-use tasks::{Reading, Sheet, Table};
+use tasks::{Refusal, Table};
 
 // The table of the first n tasks, for any policy, m and n; it has room for eight.
 fn draw_table(policy: u8, m: u8, n: u8, seed: u16) -> Table
@@ -33,16 +32,10 @@ fn draw_table(policy: u8, m: u8, n: u8, seed: u16) -> Table
 }
 
 // The practice table of policy, m, n and a seed, or the refusal of one of the first three. It is judged as every table is.
-pub fn practice_table(policy: u8, m: u8, n: u8, seed: u16) -> Sheet
-    ensures { (sheet_answer result ≡ sheet_answer (practice_of policy m n seed)) × (result.table ≡ (practice_of policy m n seed).table) }
+pub fn practice_table(policy: u8, m: u8, n: u8, seed: u16) -> Result<Table, Refusal>
+    ensures { result ≡ practice_of policy m n seed }
 {
     let table = draw_table(policy, m, n, seed);
-    let fault = table.fault();
-    if 0 < fault {
-        return tasks::refused(fault);
-    }
-    Sheet {
-        answer: Reading::Accepted,
-        table,
-    }
+    table.check()?;
+    Ok(table)
 }

@@ -12,15 +12,17 @@ use Rattle.lists.specs.Lists.{eight, pick}
 use Rattle.lists.proofs.Bools.{by_bool}
 use Rattle.lists.proofs.Fill.{eight_at, eight_same}
 use Rattle.lists.proofs.Turns.{pick_most}
+use Rattle.std.specs.Prelude.{Result, Ok, Err}
+use Rattle.tasks.specs.declared.refusal.Refusal.{Refusal}
 use Rattle.tasks.specs.Table.{table_fault}
 use Rattle.tasks.specs.State.{start, improper}
 use Rattle.tasks.specs.Tick.{bit, released, runs, chosen, after, missed, illegal, refusal, ticked}
-use Rattle.tasks.specs.Answers.{replay_answer}
+use Rattle.tasks.specs.Refusals.{refusal_at}
 use Rattle.tasks.specs.Replay.{played, replayed, replay_tick}
 use Rattle.tasks.specs.declared.state.State.{State}
 use Rattle.tasks.specs.declared.table.Table.{Table}
-use Rattle.tasks.specs.declared.tick.TickAnswer.{TickAnswer}
-use Rattle.tasks.specs.declared.tick.TickAnswer.TheVariants.{Next, Missed, Refused}
+use Rattle.tasks.specs.declared.tick.Step.{Step}
+use Rattle.tasks.specs.declared.tick.Step.TheVariants.{Next, Missed}
 use Rattle.tasks.specs.declared.play.ReplayAnswer.TheVariants as Replay
 use Rattle.tasks.proofs.Choice.{runs_work}
 use Rattle.tasks.proofs.After.{work_on, work_off, work_ran, work_waited}
@@ -69,10 +71,10 @@ module _ (t : Table) (i : ℕ) (h : i < 8) (s : State) (mask : ℕ) where
 joined : (x y r q C c d left : ℕ) → x * C + c ≡ y + d → r * C + d ≡ q + left → (x + r) * C + c ≡ y + q + left
 joined x y r q C c d left a b = omega (arith, add-mul x r C, a, b)
 
-next_most : {one rest n : ℕ} (a : TickAnswer) → one ≤ 1 → rest ≤ n → count_next one rest a ≤ suc n
-next_most Next h g = omega arith
-next_most Missed h g = omega arith
-next_most (Refused r) h g = omega arith
+next_most : {one rest n : ℕ} (a : Result Step Refusal) → one ≤ 1 → rest ≤ n → count_next one rest a ≤ suc n
+next_most (Ok Next) h g = omega arith
+next_most (Ok Missed) h g = omega arith
+next_most (Err r) h g = omega arith
 
 -- ---- a list
 
@@ -114,7 +116,7 @@ none_counted t test s (mask ∷ masks) bad = rw (sym (ticked_refused t s mask (r
 -- LAW: refusals 4 to 7 have totals that are all 0
 pub no_totals :
     (t : Table) (masks : List ℕ) → 0 < table_fault t
-    → account_from (record { answer = Replay.Refused (table_fault t) 0; state = start }) (eight (λ i. 0)) (eight (λ i. 0)) ≡ account_of t masks
+    → account_from (record { answer = Replay.Refused (refusal_at (table_fault t)) 0; state = start }) (eight (λ i. 0)) (eight (λ i. 0)) ≡ account_of t masks
 unfolding account_of release_count ticks_run
 no_totals t masks bad =
     ap (λ r. account_from r (eight (λ i. 0)) (eight (λ i. 0))) (replayed_refused t masks bad)
@@ -148,13 +150,10 @@ balance t masks =
           (omega (arith, played_balance t i h start 0 masks, eight_at {A = ℕ} 0 (λ j. 0) i h));
     }
 
--- LAW: the answer and the state of an account are those of the replay, and its totals balance
+-- LAW: an account's totals balance, and the tick that it names is at most the list's last
 pub account_told :
     (t : Table) (masks : List ℕ) {r : Account} → r ≡ account_of t masks
-    → (replay_answer r.replayed ≡ replay_answer (replayed t masks)) × (r.replayed.state ≡ (replayed t masks).state)
-    × (r.totals ≡ (account_of t masks).totals) × Balanced t r.totals × (replay_tick r.replayed.answer ≤ length masks)
+    → (r ≡ account_of t masks) × Balanced t r.totals × (replay_tick r.replayed.answer ≤ length masks)
 unfolding account_of
 account_told t masks e =
-    let same = ap (λ (x : Account). x.replayed) e in
-    let told = replay_names t masks same in
-    (told.0, told.1, ap (λ (x : Account). x.totals) e, rw e (balance t masks), told.2)
+    (e, rw e (balance t masks), (replay_names t masks (ap (λ (x : Account). x.replayed) e)).1)

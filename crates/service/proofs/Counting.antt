@@ -9,11 +9,13 @@ use lib.ListN.{length, drop, get_or, drop_of_length-le}
 use Rattle.lists.specs.Lists.{eight, pick}
 use Rattle.lists.proofs.Fill.{filled_end, eight_at}
 use Rattle.lists.proofs.Turns.{pick_most}
+use Rattle.std.specs.Prelude.{Ok, Err}
+use Rattle.tasks.specs.declared.refusal.Refusal.{Refusal}
 use Rattle.tasks.specs.State.{start}
 use Rattle.tasks.specs.Tick.{answered, ticked}
 use Rattle.tasks.specs.declared.state.State.{State}
 use Rattle.tasks.specs.declared.table.Table.{Table}
-use Rattle.tasks.specs.declared.tick.TickAnswer.TheVariants.{Next, Missed, Refused}
+use Rattle.tasks.specs.declared.tick.Step.TheVariants.{Next, Missed}
 use Rattle.tasks.specs.declared.tick.Ticked.{Ticked}
 use Rattle.tasks.proofs.Played.{drop_step}
 use Rattle.service.specs.Totals.{count_next, count_ticks}
@@ -43,17 +45,17 @@ module _ (t : Table) (test : State → ℕ → Bool) (l : List ℕ) where
   counted_end {s} {i} x h = let none : count_ticks t test s (drop i l) ≡ 0 = rw (drop_of_length-le l h) in omega (arith, x.sum, none)
 
   module _ {s : State} {i n : ℕ} (x : Counted t test l s i n) (h : i < length l) where
-    counted_next : {s' : State} → ticked t s (get_or l i 0) ≡ answered Next s' → Counted t test l s' (i + 1) (n + pick (test s (get_or l i 0)) 1 0)
+    counted_next : {s' : State} → ticked t s (get_or l i 0) ≡ answered (Ok Next) s' → Counted t test l s' (i + 1) (n + pick (test s (get_or l i 0)) 1 0)
     counted_next e =
         record {
           sum = omega (arith, x.sum, tick_counted s i h e);
           few = omega (arith, x.few, pick_most (test s (get_or l i 0)) 1);
         }
 
-    counted_missed : {s' : State} → ticked t s (get_or l i 0) ≡ answered Missed s' → n + pick (test s (get_or l i 0)) 1 0 ≡ count_ticks t test start l
+    counted_missed : {s' : State} → ticked t s (get_or l i 0) ≡ answered (Ok Missed) s' → n + pick (test s (get_or l i 0)) 1 0 ≡ count_ticks t test start l
     counted_missed e = omega (arith, x.sum, tick_counted s i h e)
 
-    counted_refused : {s' : State} {r : ℕ} → ticked t s (get_or l i 0) ≡ answered (Refused r) s' → n ≡ count_ticks t test start l
+    counted_refused : {s' : State} {r : Refusal} → ticked t s (get_or l i 0) ≡ answered (Err r) s' → n ≡ count_ticks t test start l
     counted_refused e = omega (arith, x.sum, tick_counted s i h e)
 
 -- ---- a number of each task
@@ -80,7 +82,7 @@ module _ (t : Table) (test : ℕ → State → ℕ → Bool) (l : List ℕ) wher
     totaled_end h = all x.len (λ j b. counted_end t (test j) l (x.each j b) h)
 
     module _ (h : i < length l) where
-      pub totaled_refused : {s' : State} {r : ℕ} → ticked t s (get_or l i 0) ≡ answered (Refused r) s' → numbers ≡ eight (λ j. count_ticks t (test j) start l)
+      pub totaled_refused : {s' : State} {r : Refusal} → ticked t s (get_or l i 0) ≡ answered (Err r) s' → numbers ≡ eight (λ j. count_ticks t (test j) start l)
       totaled_refused e = all x.len (λ j b. counted_refused t (test j) l (x.each j b) h e)
 
       -- the numbers raised for the tasks that pass the test
@@ -90,13 +92,13 @@ module _ (t : Table) (test : ℕ → State → ℕ → Bool) (l : List ℕ) wher
         number_raised j b =
             ap (λ (k : List ℕ). get_or k j 0) raised ∙ eight_at 0 (raised_at numbers tasks) j b ∙ ap (λ y. get_or numbers j 0 + pick y 1 0) (which j b)
 
-        pub totaled_next : {s' : State} → ticked t s (get_or l i 0) ≡ answered Next s' → Totaled t test l s' (i + 1) more
+        pub totaled_next : {s' : State} → ticked t s (get_or l i 0) ≡ answered (Ok Next) s' → Totaled t test l s' (i + 1) more
         totaled_next e =
             record {
               len = ap length raised;
               each = λ j b. rw (number_raised j b) (counted_next t (test j) l (x.each j b) h e);
             }
 
-        pub totaled_missed : {s' : State} → ticked t s (get_or l i 0) ≡ answered Missed s' → more ≡ eight (λ j. count_ticks t (test j) start l)
+        pub totaled_missed : {s' : State} → ticked t s (get_or l i 0) ≡ answered (Ok Missed) s' → more ≡ eight (λ j. count_ticks t (test j) start l)
         totaled_missed e =
             all (ap length raised) (λ j b. number_raised j b ∙ counted_missed t (test j) l (x.each j b) h e)

@@ -7,15 +7,17 @@ use native.Mathlib.Omega.{arith}
 use lib.ListN.{length, drop, get_or}
 use Rattle.lists.specs.Lists.{eight, pick}
 use Rattle.lists.proofs.Fill.{eight_at}
+use Rattle.std.specs.Prelude.{Ok}
 use Rattle.tasks.specs.Table.{table_fault}
 use Rattle.tasks.specs.State.{start, improper}
 use Rattle.tasks.specs.Tick.{bit, illegal, released, chosen, ran, missed, answered, ticked}
 use Rattle.tasks.specs.Replay.{played}
 use Rattle.tasks.specs.declared.state.State.{State}
 use Rattle.tasks.specs.declared.table.Table.{Table}
-use Rattle.tasks.specs.declared.tick.TickAnswer.TheVariants as Tick
+use Rattle.tasks.specs.declared.tick.Step.TheVariants as Tick
 use Rattle.tasks.specs.declared.play.Outcome.TheVariants.{Kept, Missed}
 use Rattle.tasks.specs.declared.play.ReplayAnswer.TheVariants.{Played, Refused}
+use Rattle.tasks.specs.declared.refusal.Refusal.TheVariants.{Mask}
 use Rattle.tasks.specs.declared.play.Replayed.{Replayed}
 use Rattle.tasks.proofs.Proper.{start_proper}
 use Rattle.tasks.proofs.Answered.{ticked_steps, ticked_illegal, ticked_proper}
@@ -59,7 +61,7 @@ module _ (t : Table) (l : List ℕ) where
       module _ (h : i < length l) where
         -- the next mask is not legal
         pub playing_refused :
-            illegal t s (get_or l i 0) ≡ true → account_from (record { answer = Refused 11 (i + 1); state = s }) more longer ≡ account_of t l
+            illegal t s (get_or l i 0) ≡ true → account_from (record { answer = Refused Mask (i + 1); state = s }) more longer ≡ account_of t l
         playing_refused bad =
             let e = ticked_illegal t s (get_or l i 0) valid x.proper bad in
             account_is (x.rest ∙ played_step t s l i h (sym e) refl) (totaled_refused t releases l x.released h e) (totaled_refused t (runs_in t) l x.run h e)
@@ -78,18 +80,18 @@ module _ (t : Table) (l : List ℕ) where
             who : (j : ℕ) → j < 8 → get_or run j false ≡ runs_in t j s (get_or l i 0)
             who j b = ap (λ (k : List Bool). get_or k j false) (run_is ∙ ap (chosen t) r-is)
 
-            now : ticked t s (get_or l i 0) ≡ answered (pick (missed t next) Tick.Missed Tick.Next) next
+            now : ticked t s (get_or l i 0) ≡ answered (Ok (pick (missed t next) Tick.Missed Tick.Next)) next
             now = ticked_steps t s (get_or l i 0) r-is run_is next-is valid x.proper legal
 
             pub playing_missed :
                 missed t next ≡ true → account_from (record { answer = Played (Missed (i + 1)); state = next }) more' longer' ≡ account_of t l
             playing_missed m =
-                let e : ticked t s (get_or l i 0) ≡ answered Tick.Missed next = rw m at now in
+                let e : ticked t s (get_or l i 0) ≡ answered (Ok Tick.Missed) next = rw m at now in
                 account_is (x.rest ∙ played_step t s l i h (sym e) refl) (totaled_missed t releases l x.released h named which more-is e) (totaled_missed t (runs_in t) l x.run h run who longer-is e)
 
             pub playing_next : missed t next ≡ false → Playing t l next (i + 1) more' longer'
             playing_next m =
-                let e : ticked t s (get_or l i 0) ≡ answered Tick.Next next = rw m at now in
+                let e : ticked t s (get_or l i 0) ≡ answered (Ok Tick.Next) next = rw m at now in
                 record {
                   proper = rw e at (ticked_proper t s (get_or l i 0) (ap (λ a. a.answer) e));
                   rest = x.rest ∙ played_step t s l i h (sym e) refl;

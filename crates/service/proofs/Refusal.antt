@@ -14,6 +14,8 @@ use Rattle.tasks.specs.Table.{table_fault}
 use Rattle.tasks.specs.State.{start}
 use Rattle.tasks.specs.Tick.{after, missed, refusal}
 use Rattle.tasks.specs.Replay.{played, replayed}
+use Rattle.tasks.specs.Refusals.{refusal_at}
+use Rattle.tasks.specs.declared.refusal.Refusal.{Refusal}
 use Rattle.tasks.specs.declared.state.State.{State}
 use Rattle.tasks.specs.declared.table.Table.{Table}
 use Rattle.tasks.specs.declared.play.Outcome.TheVariants.{Kept}
@@ -29,14 +31,14 @@ record Front (t : Table) (s : State) (k : ℕ) (l : List ℕ) (n : ℕ) : Type 0
   counts : (test : State → ℕ → Bool) → count_ticks t test s (take (n - (k + 1)) l) ≡ count_ticks t test s l
 
 module _ (t : Table) where
-  front : (s : State) (k : ℕ) (l : List ℕ) (r n : ℕ) → (played t s k l).answer ≡ Refused r n → Front t s k l n
+  front : (s : State) (k : ℕ) (l : List ℕ) (r : Refusal) (n : ℕ) → (played t s k l).answer ≡ Refused r n → Front t s k l n
   unfolding played count_ticks
   front s k [] r n e = absurd (let z : ◌≡◌ {A = ℕ} 0 1 = cc in omega arith)
   front s k (mask ∷ masks) r n e =
       by_bool (ltb 0 (refusal t s mask))
       (λ b.
       let now = sym (ticked_refused t s mask (ltb-true 0 (refusal t s mask) b)) in
-      let q : Refused (refusal t s mask) (k + 1) ≡ Refused r n = rw now at e in
+      let q : Refused (refusal_at (refusal t s mask)) (k + 1) ≡ Refused r n = rw now at e in
       let tick : n ≡ k + 1 = cc in
       let none : n - (k + 1) ≡ 0 = omega arith in
       record { later = omega arith; kept = rw (none, now); counts = λ test. rw (none, now) })
@@ -52,7 +54,7 @@ module _ (t : Table) where
 
 -- LAW: where a tick is refused, the masks before it are kept, with the state and the totals that the refusal returns
 pub refused_front :
-    (t : Table) (l : List ℕ) (r n : ℕ) → table_fault t ≡ 0 → (replayed t l).answer ≡ Refused r n
+    (t : Table) (l : List ℕ) (r : Refusal) (n : ℕ) → table_fault t ≡ 0 → (replayed t l).answer ≡ Refused r n
     → account_of t (take (n - 1) l) ≡ account_from (record { answer = Played Kept; state = (replayed t l).state }) (eight (release_count t l)) (eight (ticks_run t l))
 unfolding account_of release_count ticks_run
 refused_front t l r n valid e =

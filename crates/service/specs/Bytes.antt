@@ -1,7 +1,9 @@
 -- The totals of a replay as 192 bytes (document 02, §5, for the plotter's C build): three numbers of task 1, then of task 2 and so on, 8 bytes each.
+use Rattle.std.specs.Prelude.{Result, Ok, Err}
+use Rattle.tasks.specs.declared.refusal.Refusal.{Refusal}
 use Rattle.std.specs.Prelude.{ℕ, zero, suc, ◌+◌, ◌*◌, ◌/◌, ◌%◌, List, [], ◌∷◌, ◌++◌, ltb, length, get_or, drop}
 use Rattle.lists.specs.Lists.{pick}
-use Rattle.tasks.specs.declared.writer.Writing.{Writing}
+use Rattle.tasks.specs.declared.refusal.Refusal.TheVariants.{ShortOutput}
 use Rattle.service.specs.declared.totals.Totals.{Totals}
 
 -- a number in k bytes, low byte first
@@ -27,8 +29,8 @@ abbrev pub totals_bytes : Totals → List ℕ
 totals_bytes x = rows_of x 8
 
 -- totals written to a space that may be too short for them (12)
-abbrev pub totals_writing : List ℕ → Writing
-totals_writing out = pick (ltb (length out) 192) (Writing.Refused 12) (Writing.Written 192)
+abbrev pub totals_writing : List ℕ → Result ℕ Refusal
+totals_writing out = pick (ltb (length out) 192) (Err ShortOutput) (Ok 192)
 
 -- .. and the space afterwards: the totals at its front, later bytes as they were; a refusal leaves all
 unfoldable pub totals_space : Totals → List ℕ → List ℕ

@@ -1,13 +1,15 @@
 -- Where the core time of a replay went (document 02, §5): for each task three totals, and their balance.
 use Rattle.std.specs.Prelude.{ℕ, ◌+◌, ◌*◌, ◌<◌, ◌≡◌, Bool, false, List, [], ◌∷◌, get_or}
 use Rattle.lists.specs.Lists.{eight, pick}
+use Rattle.std.specs.Prelude.{Result, Ok, Err}
+use Rattle.tasks.specs.declared.refusal.Refusal.{Refusal}
 use Rattle.tasks.specs.State.{start}
 use Rattle.tasks.specs.Tick.{bit, released, chosen, ticked}
 use Rattle.tasks.specs.Replay.{replayed}
 use Rattle.tasks.specs.declared.state.State.{State}
 use Rattle.tasks.specs.declared.table.Table.{Table}
-use Rattle.tasks.specs.declared.tick.TickAnswer.{TickAnswer}
-use Rattle.tasks.specs.declared.tick.TickAnswer.TheVariants.{Next, Missed, Refused}
+use Rattle.tasks.specs.declared.tick.Step.{Step}
+use Rattle.tasks.specs.declared.tick.Step.TheVariants.{Next, Missed}
 use Rattle.tasks.specs.declared.play.Replayed.{Replayed}
 use Rattle.service.specs.declared.totals.Totals.{Totals}
 use Rattle.service.specs.declared.totals.Account.{Account}
@@ -15,10 +17,10 @@ use Rattle.service.specs.declared.totals.Account.{Account}
 -- ---- the ticks played
 
 -- what a tick adds to a count, where `rest` is that of the masks after it: a tick that is refused is not counted, and after a miss no mask is read
-abbrev pub count_next : ℕ → ℕ → TickAnswer → ℕ
-count_next one rest Next = one + rest
-count_next one rest Missed = one
-count_next one rest (Refused r) = 0
+abbrev pub count_next : ℕ → ℕ → Result Step Refusal → ℕ
+count_next one rest (Ok Next) = one + rest
+count_next one rest (Ok Missed) = one
+count_next one rest (Err r) = 0
 
 -- how many ticks of a list, played from state s, pass a test of the state before the tick and of its mask
 unfoldable pub count_ticks : Table → (State → ℕ → Bool) → State → List ℕ → ℕ

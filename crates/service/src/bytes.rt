@@ -1,11 +1,10 @@
 // The totals as bytes.
 ghost use Rattle.std.specs.Prelude.{◌≡◌, ◌+◌, ◌≤◌, length};
 ghost use Rattle.std.proofs.lemmas.List.Edits.{sets};
-ghost use Rattle.tasks.specs.Answers.{writing_answer};
 ghost use Rattle.service.specs.Bytes.{low_first, row_bytes, totals_bytes, totals_writing, totals_space};
 
 use crate::totals::Totals;
-use tasks::Writing;
+use tasks::Refusal;
 
 // Writes a number in eight bytes from `at` on, low byte first.
 fn put_number(out: &mut [u8], at: usize, n: u64)
@@ -36,12 +35,12 @@ fn put_rows(x: Totals, out: &mut [u8])
 }
 
 // Writes totals to the front of a space.
-pub fn write_totals(x: Totals, out: &mut [u8]) -> Writing
-    ensures { (writing_answer result ≡ writing_answer (totals_writing out.old)) × (out.new ≡ totals_space x out.old) }
+pub fn write_totals(x: Totals, out: &mut [u8]) -> Result<usize, Refusal>
+    ensures { (result ≡ totals_writing out.old) × (out.new ≡ totals_space x out.old) }
 {
     if out.len() < 192 {
-        return Writing::Refused(12);
+        return Err(Refusal::ShortOutput);
     }
     put_rows(x, out);
-    Writing::Written(192)
+    Ok(192)
 }

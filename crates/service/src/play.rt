@@ -1,12 +1,11 @@
 // The replay of a list, with the totals of each task.
 ghost use Rattle.std.specs.Prelude.{◌≡◌, ◌≤◌, length};
-ghost use Rattle.tasks.specs.Answers.{replay_answer};
-ghost use Rattle.tasks.specs.Replay.{replayed, replay_tick};
+ghost use Rattle.tasks.specs.Replay.{replay_tick};
 ghost use Rattle.tasks.specs.Table.{table_fault};
 ghost use Rattle.service.specs.Totals.{account_of, Balanced};
 
 use crate::totals::{Account, account_of, named, raised};
-use tasks::{Outcome, ReplayAnswer, State, Table};
+use tasks::{Outcome, Refusal, ReplayAnswer, State, Table};
 
 // The masks of a valid table played from the start state, up to the first miss or refusal. Every state on the way is proper, so of a tick's refusals
 // only that of the mask is asked for.
@@ -21,7 +20,7 @@ fn play(t: Table, masks: &[u8]) -> Account
         let tick = i + 1;
         let more = raised(releases, named(mask));
         if s.illegal(t, mask) {
-            return account_of(ReplayAnswer::Refused(11, tick), s, releases, ran);
+            return account_of(ReplayAnswer::Refused(Refusal::Mask, tick), s, releases, ran);
         }
         let released = s.release(t, mask);
         let run = released.choose(t);
@@ -40,12 +39,11 @@ fn play(t: Table, masks: &[u8]) -> Account
 
 // The replay of a list and its totals, for any table: a bad table is refused before the first tick, with totals of 0.
 pub fn service(t: Table, masks: &[u8]) -> Account
-    ensures { (replay_answer result.replayed ≡ replay_answer (replayed t masks.now)) × (result.replayed.state ≡ (replayed t masks.now).state) × (result.totals ≡ (account_of t masks.now).totals) × Balanced t result.totals × (replay_tick result.replayed.answer ≤ length masks.now) }
+    ensures { (result ≡ account_of t masks.now) × Balanced t result.totals × (replay_tick result.replayed.answer ≤ length masks.now) }
 {
-    let fault = t.fault();
-    if 0 < fault {
+    if let Err(why) = t.check() {
         let none = [0u64; 8];
-        return account_of(ReplayAnswer::Refused(fault, 0), State::start(), none, none);
+        return account_of(ReplayAnswer::Refused(why, 0), State::start(), none, none);
     }
     play(t, masks)
 }

@@ -17,7 +17,7 @@ pub struct Totals {
 }
 
 // What the replay of a list answers, and its totals.
-#[derive(Clone, Copy)]
+#[derive(Clone, Copy, Debug, PartialEq, Eq)]
 pub struct Account {
     pub replayed: Replayed,
     pub totals: Totals,

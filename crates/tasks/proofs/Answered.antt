@@ -18,7 +18,8 @@ use Rattle.tasks.specs.declared.refusal.Refusal.TheVariants.{Mask}
 use Rattle.tasks.specs.Refusals.{refusal_number, refusal_at}
 use Rattle.lists.proofs.Bools.{by_bool}
 use Rattle.lists.proofs.Picks.{pick_yes, pick_no}
-use Rattle.tasks.proofs.Tables.{pick_zero, pick_case, Named, fault_number}
+use Rattle.tasks.proofs.Tables.{pick_zero, fault_number}
+use Rattle.tasks.proofs.Refusals.{pick_case, Named}
 use Rattle.tasks.proofs.Proper.{proper_after}
 
 -- a tick that neither refuses nor misses: what it is given, and what it leaves

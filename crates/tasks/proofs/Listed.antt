@@ -14,8 +14,8 @@ use Rattle.tasks.specs.declared.refusal.Refusal.TheVariants.{FieldCount, Policy,
 use Rattle.tasks.specs.Number.{Read, above, number_in, number_at}
 use Rattle.tasks.specs.Sheet.{ruled, field_at, and_then, task_of, task_at, with_task, tasks_from, from_tasks, from_policy, sheet_of, empty_table}
 use Rattle.tasks.specs.declared.table.Table.{Table}
-use Rattle.tasks.proofs.Refusals.{refusal_some}
-use Rattle.tasks.proofs.Tables.{pick_case}
+use Rattle.tasks.proofs.Refusals.{refusal_some, pick_case}
+
 
 -- a value, or one of the refusals 1 to 8
 abbrev Listed : {A : Type 0} → Result A Refusal → Type 0

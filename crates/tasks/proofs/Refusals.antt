@@ -1,11 +1,12 @@
 -- A refusal and its number. Assumes nothing.
 use Prim.Native.Nat.{ℕ, ◌<◌}
 use mathlib.Core.Path.{◌≡◌, refl, sym, ap, ◌∙◌}
-use mathlib.Core.Bool.{true}
+use mathlib.Core.Bool.{Bool, true, false}
 use native.Mathlib.Omega.{arith}
 use lib.Dec.{ltb}
 use borrow.Author.Tests.{lt-ltb, ltb-true, ltb-false}
 use Rattle.std.specs.Prelude.{Result, Ok, Err}
+use Rattle.lists.specs.Lists.{pick}
 use Rattle.lists.proofs.Bools.{by_bool}
 use Rattle.tasks.specs.Refusals.{refusal_number, refusal_at, unless_refused}
 use Rattle.tasks.specs.declared.refusal.Refusal.{Refusal}
@@ -53,6 +54,15 @@ refusal_some FileLength = omega arith
 refusal_some MarkNumber = omega arith
 refusal_some MarkUnset = omega arith
 
+-- what holds of both numbers holds of the one picked
+pub pick_case : {A : Type 0} (P : A → Type 0) (b : Bool) {x y : A} → P x → P y → P (pick b x y)
+pick_case P true p q = p
+pick_case P false p q = q
+
+-- 0, or the number of a refusal
+abbrev pub Named : ℕ → Type 0
+Named n = 0 < n → n ≡ refusal_number (refusal_at n)
+
 module _ {A : Type 0} where
   -- a value unless it is refused, from the number to the answer
   pub refused_at : {n : ℕ} (r : Refusal) (x : A) → refusal_number r ≡ n → Err r ≡ unless_refused n x
@@ -87,3 +97,14 @@ module _ {A : Type 0} where
       (λ h.
       let f : ◌≡◌ {A = Result A Refusal} (Ok x) (Ok y) = rw h at e in
       (omega (arith, ltb-false 0 n h), cc))
+
+  -- the number of what was refused
+  pub refused_number : {r : Refusal} (n : ℕ) (x : A) → Named n → unless_refused n x ≡ Err r → n ≡ refusal_number r
+  refused_number n x named e = let f = refused_unless n x e in named f.0 ∙ ap refusal_number f.1
+
+-- whether a refusal applies does not depend on the value
+pub refused_same : {A B : Type 0} {r : Refusal} {n k : ℕ} (x : A) (y : B) → n ≡ k → unless_refused n x ≡ Err r → Err r ≡ unless_refused k y
+unfolding unless_refused
+refused_same {r = r} {n = n} x y e h =
+    let f = refused_unless n x h in
+    rw (← e, lt-ltb 0 n f.0, f.1)

@@ -10,6 +10,7 @@ use Rattle.lists.specs.Lists.{pick, any}
 use Rattle.tasks.specs.Table.{last_policy, outside, breaks, fault_at, table_fault}
 use Rattle.tasks.specs.Refusals.{refusal_number, refusal_at}
 use Rattle.tasks.specs.declared.table.Table.{Table}
+use Rattle.tasks.proofs.Refusals.{pick_case, Named}
 use Rattle.lists.proofs.Bools.{by_bool, nor_left, nor_right}
 use Rattle.lists.proofs.Counts.{any_false, none_any}
 
@@ -50,15 +51,6 @@ pub record Ordered (t : Table) (i : ℕ) : Type 0 where
   pub work : get_or t.work i 0 ≤ get_or t.deadline i 0
   pub deadline : get_or t.deadline i 0 ≤ get_or t.gap i 0
   pub least : get_or t.gap i 0 ≤ 200
-
--- what holds of both numbers holds of the one picked
-pub pick_case : {A : Type 0} (P : A → Type 0) (b : Bool) {x y : A} → P x → P y → P (pick b x y)
-pick_case P true p q = p
-pick_case P false p q = q
-
--- 0, or the number of a refusal
-abbrev pub Named : ℕ → Type 0
-Named n = 0 < n → n ≡ refusal_number (refusal_at n)
 
 -- a refusal that is 0 was not picked
 pub pick_zero : (b : Bool) (k r : ℕ) → 0 < k → pick b k r ≡ 0 → (b ≡ false) × (r ≡ 0)
