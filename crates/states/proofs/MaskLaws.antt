@@ -1,5 +1,5 @@
 -- The walk through the submasks of a byte visits each of them once, in increasing order; they are the legal masks. Assumes nothing.
-use Rattle.std.proofs.Common.{◌≡◌, ℕ, zero, suc, ◌+◌, ◌-◌, ◌%◌, ◌<◌, ◌≤◌, Bool, true, false, not, ◌||◌, eqb, ◌⊎◌, sym, refl, ap, ◌∙◌, arith, eq-eqb, ne_eqb, eqb-true}
+use Rattle.std.proofs.Common.{◌≡◌, ℕ, zero, suc, ◌+◌, ◌<◌, ◌≤◌, Bool, true, false, not, ◌||◌, eqb, ◌⊎◌, sym, refl, ap, ◌∙◌, arith, eq-eqb, ne_eqb, eqb-true}
 use mathlib.Core.Logic.◌⊎◌.{inl, inr}
 use native.Mathlib.Decide.{ℕ_discrete, dec_lt}
 use Rattle.lists.specs.Lists.{pick}
@@ -131,10 +131,6 @@ module _ (Q : ℕ → Type 0) {free : ℕ} (small : free < 256) where
 
   pub walked_falls : {m : ℕ} → Walked Q free m → m < 256 → m < follows free m
   walked_falls {m} x h = let f = next_submask free m small h (x.is h) in omega (arith, f.up)
-
--- a difference that wraps
-pub wrapped : (r f m : ℕ) → r < 256 → f < 256 → m < 256 → (r + f) % 256 ≡ m → r ≡ (m + (256 - f)) % 256
-wrapped r f m a b c e = omega arith
 
 -- the two cases of `follows`
 pub follows_end : (free m : ℕ) → next_mask free m ≡ 0 → 256 ≡ follows free m

@@ -6,7 +6,7 @@ ghost use Rattle.states.specs.Masks.{next_mask, follows};
 fn next_mask(free: u8, m: u8) -> u8
     ensures { result ≡ next_mask free m }
 {
-    std::num::wrapping_sub_u8(m, free) & free
+    m.wrapping_sub(free) & free
 }
 
 // The submask of free after m, and 256 after the last.
