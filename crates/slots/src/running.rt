@@ -20,8 +20,7 @@ pub fn block_upto(i: usize, hi: usize) -> usize
     requires { (i < hi) × (hi ≤ 1000000) }
     ensures { (i < result) × (result ≤ hi) × (result ≤ 4096 * (i / 4096 + 1)) }
 {
-    let end = 4096 * (i / 4096 + 1);
-    if end < hi { end } else { hi }
+    hi.min(4096 * (i / 4096 + 1))
 }
 
 // Slot i has been tried, and n slots are filled: where it is the last of its block, that is the block's end.
@@ -50,21 +49,10 @@ fn settle_block(work: &mut [u8], k: usize, b: usize, from: usize, to: usize) -> 
     requires { (to ≤ k) × (21 * k ≤ length work.old) × (b < 245) }
     ensures { BlockSettled k b from to work.old work.new result }
 {
-    let mut i = from;
-    while i < to {
+    for i in from..to {
         settle_slot(work, k, b, i);
-        i += 1;
     }
-    i
-}
-
-// How many of n slots have parents of block b or of one before it: the block's end, or n where that is above n.
-fn end_within(ends: &[u32], b: usize, n: usize) -> usize
-    requires { b < length ends.now }
-    ensures { (result ≤ get_or ends.now b 0) × (result ≤ n) × (result < n → result ≡ get_or ends.now b 0) }
-{
-    let end = ends[b] as usize;
-    if end < n { end } else { n }
+    from.max(to)
 }
 
 // Writes the parents of the first n slots of k, block by block.
@@ -72,11 +60,11 @@ pub fn settle(work: &mut [u8], ends: &[u32], k: usize, n: usize)
     requires { (n ≤ k) × (21 * k ≤ length work.old) × (length ends.now ≡ 245) × (n ≤ get_or ends.now 244 0) }
     ensures { Settled k ends.now work.old work.new n }
 {
-    let mut b: usize = 0;
     let mut from: usize = 0;
-    while from < n {
-        let to = end_within(ends, b, n);
-        from = settle_block(work, k, b, from, to);
-        b += 1;
+    for (b, end) in ends.iter().enumerate() {
+        if from == n {
+            break;
+        }
+        from = settle_block(work, k, b, from, n.min(*end as usize));
     }
 }

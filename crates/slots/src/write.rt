@@ -14,11 +14,9 @@ fn put_state(part: &mut [u8], v: [u16; 8])
     requires { 16 ≤ length part.old }
     ensures { part.new ≡ sets part.old 0 (state_bytes (state_of v)) }
 {
-    let mut k: usize = 0;
-    while k < 8 {
+    for k in 0..8 {
         part[2 * k] = work_in(v[k]);
         part[2 * k + 1] = gap_in(v[k]);
-        k += 1;
     }
 }
 
@@ -27,10 +25,7 @@ pub(crate) fn put_parent(part: &mut [u8], x: u32)
     requires { 4 ≤ length part.old }
     ensures { part.new ≡ sets part.old 0 (four_bytes x) }
 {
-    part[0] = (x % 256) as u8;
-    part[1] = (x / 256 % 256) as u8;
-    part[2] = (x / 65536 % 256) as u8;
-    part[3] = (x / 16777216 % 256) as u8;
+    part[..4].copy_from_slice(&x.to_le_bytes());
 }
 
 // Writes the byte of a mask.
