@@ -29,8 +29,7 @@ pub fn end_slot(ends: &mut [u32], i: usize, n: usize)
     ensures { ends.new ≡ ends_after ends.old i n }
 {
     if i % 4096 == 4095 {
-        let b = i / 4096;
-        ends[b] = n as u32;
+        ends[i / 4096] = n as u32;
     }
 }
 
@@ -39,9 +38,8 @@ fn settle_slot(work: &mut [u8], k: usize, b: usize, i: usize)
     requires { (i < k) × (21 * k ≤ length work.old) × (b < 245) }
     ensures { work.new ≡ sets work.old (16 * k + 4 * i) (four_bytes (4096 * b + word_at k work.old i / 1048576)) }
 {
-    let at = 16 * k + 4 * i;
     let parent = 4096 * (b as u32) + parent_of(work, k, i) / 1048576;
-    put_parent(&mut work[at..], parent);
+    put_parent(&mut work[16 * k + 4 * i..], parent);
 }
 
 // Writes the parents of the slots from `from` to `to` - 1, all of block b, and says how many slots have theirs then.

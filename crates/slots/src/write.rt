@@ -41,12 +41,9 @@ pub fn put_slot(work: &mut [u8], k: usize, i: usize, v: [u16; 8], parent: u32, m
     requires { (i < k) × (21 * k ≤ length work.old) }
     ensures { work.new ≡ write_slot (columns k) work.old i (slot (state_of v) parent mask) }
 {
-    let first = 16 * i;
-    put_state(&mut work[first..], v);
-    let second = 16 * k + 4 * i;
-    put_parent(&mut work[second..], parent);
-    let third = 20 * k + i;
-    put_mask(&mut work[third..], mask);
+    put_state(&mut work[16 * i..], v);
+    put_parent(&mut work[16 * k + 4 * i..], parent);
+    put_mask(&mut work[20 * k + i..], mask);
 }
 
 // Writes the sixteen bytes of a state at the front of the space, where it is long enough.
