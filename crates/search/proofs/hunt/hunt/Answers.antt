@@ -1,4 +1,4 @@
-use mathlib.Core.Path.{sym, ap, ◌∙◌}
+use mathlib.Core.Path.{◌≡◌, sym, ap, ◌∙◌}
 use Prim.Native.Nat.{◌<◌}
 use Rattle.tasks.specs.State.{improper}
 use Rattle.tasks.specs.Tick.{after, missed}
@@ -18,15 +18,13 @@ use borrow.Author.Rules.{rules}
 use Rattle.search.proofs.hunt.hunt.Goals as goal
 use Rattle.search.proofs.hunt.hunt.Goals.{then-has_miss+else-loop-m-test, else-has_miss}
 
-pub hunt-init : goal.hunt-init
-hunt-init c = let r = c.requires in (omega arith, omega arith, hunt_start (system _))
+pub loop-i-init : goal.loop-i-init
+loop-i-init c = hunt_start (system _)
 
 pub loop-m-init : goal.loop-m-init
 loop-m-init c =
     let level = c.requires.2 in
-    let h = c.hunt in
-    let ne = c.if-i-hi.false in
-    let below : h.i < c.args.hi = omega (arith, h.invariant.1) in (
+    let below : c.loop-i.i < c.args.hi = c.loop-i-test.true in (
       walked_start _ (omega (arith, c.free-free.type_inv)),
       frees _ _ c.requires.0 c.free-free.ensures ∙ ap (free_mask _) c.words_in-v.ensures,
       λ mask. ticks _ _ c.requires.0 c.prepare-state.ensures level.valid (ap (improper _) c.words_in-v.ensures ∙ level.proper _ below) (let it : WordList c.words_in-v.result = record { word = λ i h. search rules } in it) mask ∙ ap (λ u. after c.args.t u mask) c.words_in-v.ensures,
@@ -41,18 +39,17 @@ pub loop-m-preserved : goal.loop-m-preserved
 loop-m-preserved c =
     let x = c.loop-m.invariant in (
       rw c.follow-m.ensures
-          (walked_next _ (omega (arith, c.free-free.type_inv)) x.0 c.loop-m-test.true (rw (c.after-next.ensures, x.2 _) at (sym c.misses.ensures ∙ c.if-misses.false))),
+          (walked_next _ (omega (arith, c.free-free.type_inv)) x.0 c.loop-m-test.true (rw (c.after.ensures, x.2 _) at (sym c.misses.ensures ∙ c.if-misses.false))),
       x.1,
       x.2,
     )
 
-pub hunt-preserved : goal.hunt-preserved
-hunt-preserved c =
-    let h = c.hunt in
+pub loop-i-preserved : goal.loop-i-preserved
+loop-i-preserved c =
+    let h = c.loop-i in
     let level = c.requires.2 in
-    let ne = c.if-i-hi.false in
     let a = c.args in
-    let below : h.i < a.hi = omega arith in
+    let below : h.i < a.hi = c.loop-i-test.true in
     let s = state_in a.work.now h.i in
     let proper = level.proper h.i below in
     let calm : Calm (system a.t) s =
@@ -60,17 +57,15 @@ hunt-preserved c =
       | then-has_miss+else-loop-m-test w ↦ calm_end a.t level.valid s proper (rw (← w.loop-m.invariant.1) w.loop-m.invariant.0) w.loop-m-test.false
       | else-has_miss w ↦ calm_by a.t level.valid s proper c.words_in-v.ensures c.requires.0 (record { word = λ i h. search rules }) (sym c.has_miss.ensures ∙ w.if-has_miss.false)
     ] in
-    (omega arith, omega arith, hunt_turn a.t a.work.now h.invariant.2 calm)
+    hunt_turn a.t a.work.now h.invariant calm
 
-pub returns-then-i-hi : goal.returns-then-i-hi
-returns-then-i-hi c = rw c.if-i-hi.true at c.hunt.invariant.2
+pub returns-after-loop-i : goal.returns-after-loop-i
+returns-after-loop-i c = let e : c.loop-i.i ≡ c.args.hi = omega (arith, c.requires.1, c.loop-i-test.false) in rw e at c.loop-i.invariant
 
 pub returns-then-misses : goal.returns-then-misses
 returns-then-misses c =
-    let h = c.hunt in
-    let ne = c.if-i-hi.false in
     let x = c.loop-m.invariant in
     let b = c.loop-m-test.true in
-    miss_from c.requires.2 h.invariant.0 (omega arith) b
+    miss_from c.requires.2 (omega arith) c.loop-i-test.true b
     (rw (← x.1) (x.0.is b))
-    (ap (missed c.args.t) (sym (x.2 _)) ∙ ap (λ v. missed c.args.t (state_of v)) (sym c.after-next.ensures) ∙ sym c.misses.ensures ∙ c.if-misses.true)
+    (ap (missed c.args.t) (sym (x.2 _)) ∙ ap (λ v. missed c.args.t (state_of v)) (sym c.after.ensures) ∙ sym c.misses.ensures ∙ c.if-misses.true)

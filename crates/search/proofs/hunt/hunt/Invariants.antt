@@ -1,6 +1,6 @@
 -- The invariant of the slots: no mask misses from those passed; of the masks: none of those passed misses. Assumes nothing.
 use mathlib.Core.Path.{◌≡◌}
-use Prim.Native.Nat.{ℕ, ◌-◌, ◌≤◌}
+use Prim.Native.Nat.{ℕ, ◌-◌}
 use Rattle.tasks.specs.Tick.{after}
 use Rattle.tasks.specs.Masks.{free_mask}
 use Rattle.tasks.specs.Ticker.{ticked_by}
@@ -19,8 +19,5 @@ invariant-loop-m l =
 abbrev pub decreases-loop-m : goal.decreases-loop-m
 decreases-loop-m l = 256 - l.m
 
-abbrev pub invariant-hunt : goal.invariant-hunt
-invariant-hunt l = (l.lo ≤ l.i) × (l.i ≤ l.hi) × Hunting (system l.t) (state_in l.work) l.lo l.i
-
-abbrev pub decreases-hunt : goal.decreases-hunt
-decreases-hunt l = l.hi - l.i
+abbrev pub invariant-loop-i : goal.invariant-loop-i
+invariant-loop-i l = Hunting (system l.t) (state_in l.work) l.lo l.i
