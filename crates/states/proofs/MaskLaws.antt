@@ -1,5 +1,5 @@
 -- The walk through the submasks of a byte visits each of them once, in increasing order; they are the legal masks. Assumes nothing.
-use Rattle.std.proofs.Common.{◌≡◌, ℕ, zero, suc, ◌+◌, ◌<◌, ◌≤◌, Bool, true, false, not, ◌||◌, eqb, ◌⊎◌, sym, refl, ap, ◌∙◌, arith, eq-eqb, ne_eqb, eqb-true}
+use Rattle.std.proofs.Common.{◌≡◌, ℕ, zero, suc, ◌+◌, ◌-◌, ◌<◌, ◌≤◌, Bool, true, false, not, ◌||◌, eqb, ◌⊎◌, sym, refl, ap, ◌∙◌, arith, eq-eqb, ne_eqb, eqb-true}
 use mathlib.Core.Logic.◌⊎◌.{inl, inr}
 use native.Mathlib.Decide.{ℕ_discrete, dec_lt}
 use Rattle.lists.specs.Lists.{pick}
@@ -10,7 +10,8 @@ use Rattle.tasks.specs.declared.table.Table.{Table}
 use Rattle.lists.proofs.Bools.{clash, and_left, and_right, both}
 use Rattle.tasks.proofs.Legal.{legal_bit, bits_legal}
 use Rattle.tasks.proofs.Free.{free_bit, may, may_be}
-use Rattle.states.specs.Masks.{next_mask, follows}
+use Rattle.states.specs.Masks.{next_mask, follows, place, AtMask}
+use Rattle.states.specs.declared.masks.Masks.{Masks}
 use Rattle.states.proofs.MaskTest.{all, submask, same, checks, every}
 
 same_is : (a b : Bool) → same a b ≡ true → a ≡ b
@@ -131,6 +132,14 @@ module _ (Q : ℕ → Type 0) {free : ℕ} (small : free < 256) where
 
   pub walked_falls : {m : ℕ} → Walked Q free m → m < 256 → m < follows free m
   walked_falls {m} x h = let f = next_submask free m small h (x.is h) in omega (arith, f.up)
+
+-- a step of a walk that stands at a mask leads up to another, or to the end
+pub walk_up :
+    {walk walk' : Masks} {m : ℕ} → AtMask walk → m < 256 → place walk.next ≡ m → walk'.free ≡ walk.free → place walk'.next ≡ follows walk.free m
+    → AtMask walk' × (256 - place walk'.next < 256 - place walk.next)
+walk_up {walk} {walk'} {m} x h e f n =
+    let g = next_submask walk.free m x.small h (rw e at (x.is (rw e h))) in
+    (record { small = rw f x.small; most = rw n g.most; is = rw (f, n) g.is }, rw (n, e) (omega (arith, g.up, g.most)))
 
 -- the two cases of `follows`
 pub follows_end : (free m : ℕ) → next_mask free m ≡ 0 → 256 ≡ follows free m
