@@ -4,7 +4,7 @@ ghost use Rattle.tasks.specs.Ticker.{ticker_of};
 ghost use Rattle.states.specs.Miss.{miss_by};
 ghost use Rattle.search.specs.Keeping.{Level, HuntIs};
 
-use states::{follow, full_misses, words_in};
+use states::{full_misses, masks_of, words_in};
 use tasks::{Table, Ticker, misses, tight};
 
 // Whether some mask misses from the state in the words, where it is proper.
@@ -32,15 +32,11 @@ pub(crate) fn hunt(
         for i in lo..hi {
             let v = words_in(work, i);
             if has_miss(t, ticker, v) {
-                let free = ticker.free(v);
                 let state = ticker.prepare(v);
-                let mut m: u16 = 0;
-                while m < 256 {
-                    let mask = m as u8;
+                for mask in masks_of(ticker.free(v)) {
                     if misses(t, ticker.after(state, mask)) {
                         break 'hunt Some((i, mask));
                     }
-                    m = follow(free, mask);
                 }
             }
         }

@@ -8,7 +8,7 @@ ghost use Rattle.search.specs.Keeping.{Level, Attempted, RowReady, RowIs, BlockR
 
 use crate::index::{holds, push};
 use slots::{block_upto, end_slot};
-use states::{follow, words_in};
+use states::{masks_of, words_in};
 use tasks::{Prepared, Table, Ticker};
 
 // Stores what the state of slot i leads to under a mask, where it is new. How many slots are filled then, or none where there is no room.
@@ -50,14 +50,10 @@ fn store_row(
     ensures { RowIs t k work.old work.new heads.new from i result }
 {
     let v = words_in(work, i);
-    let free = ticker.free(v);
     let state = ticker.prepare(v);
     let mut n = from;
-    let mut m: u16 = 0;
-    while m < 256 {
-        let mask = m as u8;
+    for mask in masks_of(ticker.free(v)) {
         n = try_mask(ticker, work, heads, state, k, n, i, mask)?;
-        m = follow(free, mask);
     }
     Some(n)
 }

@@ -10,7 +10,7 @@ use Rattle.tasks.specs.declared.table.Table.{Table}
 use Rattle.lists.proofs.Bools.{clash, and_left, and_right, both}
 use Rattle.tasks.proofs.Legal.{legal_bit, bits_legal}
 use Rattle.tasks.proofs.Free.{free_bit, may, may_be}
-use Rattle.states.specs.Masks.{next_mask, follows, place, AtMask}
+use Rattle.states.specs.Masks.{next_mask, follows, place, AtMask, Stepped}
 use Rattle.states.specs.declared.masks.Masks.{Masks}
 use Rattle.states.proofs.MaskTest.{all, submask, same, checks, every}
 
@@ -133,13 +133,24 @@ module _ (Q : ℕ → Type 0) {free : ℕ} (small : free < 256) where
   pub walked_falls : {m : ℕ} → Walked Q free m → m < 256 → m < follows free m
   walked_falls {m} x h = let f = next_submask free m small h (x.is h) in omega (arith, f.up)
 
--- a step of a walk that stands at a mask leads up to another, or to the end
-pub walk_up :
-    {walk walk' : Masks} {m : ℕ} → AtMask walk → m < 256 → place walk.next ≡ m → walk'.free ≡ walk.free → place walk'.next ≡ follows walk.free m
-    → AtMask walk' × (256 - place walk'.next < 256 - place walk.next)
-walk_up {walk} {walk'} {m} x h e f n =
-    let g = next_submask walk.free m x.small h (rw e at (x.is (rw e h))) in
-    (record { small = rw f x.small; most = rw n g.most; is = rw (f, n) g.is }, rw (n, e) (omega (arith, g.up, g.most)))
+-- ---- the walk as an iterator
+
+module _ {walk walk' : Masks} {m : ℕ} (x : AtMask walk) (y : Stepped walk walk' m) where
+  -- the mask that it gives is a submask
+  pub walk_at : submask walk.free m ≡ true
+  walk_at = rw y.here at (x.is (rw y.here y.small))
+
+  -- it goes up, to another mask or to the end
+  pub walk_up : AtMask walk' × (256 - place walk'.next < 256 - place walk.next)
+  walk_up =
+      let g = next_submask walk.free m x.small y.small walk_at in
+      (record { small = rw y.free x.small; most = rw y.next g.most; is = rw (y.free, y.next) g.is }, rw (y.next, y.here) (omega (arith, g.up, g.most)))
+
+  pub walk_next : (Q : ℕ → Type 0) → Walked Q walk.free (place walk.next) → Q m → Walked Q walk'.free (place walk'.next)
+  walk_next Q w q = rw (y.free, y.next) (walked_next Q x.small (rw y.here at w) y.small q)
+
+pub walk_start : (Q : ℕ → Type 0) {walk : Masks} → AtMask walk → place walk.next ≡ 0 → Walked Q walk.free (place walk.next)
+walk_start Q x e = rw e (walked_start Q x.small)
 
 -- the two cases of `follows`
 pub follows_end : (free m : ℕ) → next_mask free m ≡ 0 → 256 ≡ follows free m

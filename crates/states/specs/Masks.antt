@@ -34,6 +34,13 @@ pub record AtMask (walk : Masks) : Type 0 where
   pub most : place walk.next ≤ 256
   pub is : place walk.next < 256 → submask walk.free (place walk.next) ≡ true
 
--- a step gives the mask that comes next and goes on to the one after it, and at the end it gives none
+-- a step gives the mask that comes next and goes on to the one after it
+pub record Stepped (walk walk' : Masks) (m : ℕ) : Type 0 where
+  pub small : m < 256
+  pub here : place walk.next ≡ m
+  pub free : walk'.free ≡ walk.free
+  pub next : place walk'.next ≡ follows walk.free m
+
+-- .. and at the end it gives none
 abbrev pub Steps : Masks → Option ℕ → Masks → Type 0
-Steps walk r walk' = MatchOption r (place walk.next ≡ 256) (λ m. (m < 256) × (place walk.next ≡ m) × (walk'.free ≡ walk.free) × (place walk'.next ≡ follows walk.free m))
+Steps walk r walk' = MatchOption r (place walk.next ≡ 256) (Stepped walk walk')
