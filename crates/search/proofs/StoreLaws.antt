@@ -137,7 +137,7 @@ module _ {t : Table} {K : ℕ} {w heads : List ℕ} {n i : ℕ} (ready : RowRead
           (rw (← x.here) (step_missed t ready.valid s proper m b legal q))))
           (λ q. rw (← x.here) (step_next t ready.valid s proper m b legal q))
 
-      pub row_known : {w₂ heads₂ : List ℕ} → Known w₁ w₂ heads₁ heads₂ n₁ (after t s m) → RowTo t K w w₂ heads₂ s n n₁ i free (follows free m)
+      row_known : {w₂ heads₂ : List ℕ} → Known w₁ w₂ heads₁ heads₂ n₁ (after t s m) → RowTo t K w w₂ heads₂ s n n₁ i free (follows free m)
       row_known {w₂} {heads₂} y =
           let f = next_submask free m small b (x.is b) in
           rw (y.same, y.same_heads)
@@ -150,7 +150,7 @@ module _ {t : Table} {K : ℕ} {w heads : List ℕ} {n i : ℕ} (ready : RowRead
             carries = λ ends marked lo hi d l h z. search_known (system t) (x.carries ends marked lo hi d l h z) m grow (λ u e. rw (leads u e) at y.held);
           })
 
-      pub row_added : {w₂ heads₂ : List ℕ} → Added K w₁ w₂ heads₁ heads₂ n₁ (after t s m) i m → RowTo t K w w₂ heads₂ s n (n₁ + 1) i free (follows free m)
+      row_added : {w₂ heads₂ : List ℕ} → Added K w₁ w₂ heads₁ heads₂ n₁ (after t s m) i m → RowTo t K w w₂ heads₂ s n (n₁ + 1) i free (follows free m)
       row_added {w₂} {heads₂} y =
           let f = next_submask free m small b (x.is b) in
           let p = y.pushed in
@@ -171,6 +171,13 @@ module _ {t : Table} {K : ℕ} {w heads : List ℕ} {n i : ℕ} (ready : RowRead
                 (parent_now more (omega arith) (omega arith) K w₂ p.place) p.mask_is
                 (rw p.state (gives ends h v)) (λ o. y.absent (rw p.state at o)));
           }
+
+      -- a mask that there was room for
+      pub row_stored :
+          {w₂ heads₂ : List ℕ} {n₂ : ℕ}
+          → ((n₂ ≡ n₁) × Known w₁ w₂ heads₁ heads₂ n₁ (after t s m)) ⊎ ((n₂ ≡ n₁ + 1) × Added K w₁ w₂ heads₁ heads₂ n₁ (after t s m) i m)
+          → RowTo t K w w₂ heads₂ s n n₂ i free (follows free m)
+      row_stored y = ⊎_elim (λ z. rw z.0 (row_known z.1)) (λ z. rw z.0 (row_added z.1)) y
 
       pub row_crowded : {w₂ : List ℕ} → Crowded K w₁ w₂ n₁ (after t s m) → RowFull t K w w₂ n i
       row_crowded {w₂} y =

@@ -1,6 +1,6 @@
 -- Only the search's bookkeeping, no part of its claim: what its parts ask of each other and promise. K slots stand in w in the layout while the search runs
 -- (Running.antt of `slots`), and ends are the ends of its blocks.
-use Rattle.std.specs.Prelude.{◌≡◌, false, List, [], ◌∷◌, ◌++◌, ℕ, suc, ◌+◌, ◌*◌, ◌/◌, ◌≤◌, ◌<◌, length, get_or, drop}
+use Rattle.std.specs.Prelude.{◌≡◌, ◌⊎◌, false, List, [], ◌∷◌, ◌++◌, ℕ, suc, ◌+◌, ◌*◌, ◌/◌, ◌≤◌, ◌<◌, length, get_or, drop, Option, Some, None}
 use Rattle.tasks.specs.Table.{table_fault}
 use Rattle.tasks.specs.State.{improper}
 use Rattle.tasks.specs.Tick.{after}
@@ -17,10 +17,6 @@ use Rattle.slots.specs.Layout.{columns, parent_at, mask_at, Stays}
 use Rattle.slots.specs.Running.{parent_in, Marked, Settled}
 use Rattle.search.specs.Claim.{slots_in, figures, Found}
 use Rattle.search.specs.Indexed.{Indexed, Pushed}
-use Rattle.search.specs.declared.hunt.HuntAnswer.{HuntAnswer}
-use Rattle.search.specs.declared.hunt.HuntAnswer.TheVariants.{Miss, Clear}
-use Rattle.search.specs.declared.store.Attempt.{Attempt}
-use Rattle.search.specs.declared.store.Filled.{Filled}
 use Rattle.search.specs.declared.run.End.{End}
 use Rattle.search.specs.declared.run.SearchAnswer.{SearchAnswer}
 
@@ -43,9 +39,10 @@ pub record MissFrom (t : Table) (w : List ℕ) (lo hi i m : ℕ) : Type 0 where
   pub below : i < hi
   pub missed : step t (state_in w i) m ≡ levels.Tick.Missed (after t (state_in w i) m)
 
-abbrev pub HuntIs : Table → List ℕ → ℕ → ℕ → HuntAnswer → Type 0
-HuntIs t w lo hi (Miss i m) = MissFrom t w lo hi i m
-HuntIs t w lo hi Clear = Hunting (system t) (state_in w) lo hi
+-- a slot and a mask that misses from it, or none does
+abbrev pub HuntIs : Table → List ℕ → ℕ → ℕ → Option (ℕ × ℕ) → Type 0
+HuntIs t w lo hi (Some found) = MissFrom t w lo hi found.0 found.1
+HuntIs t w lo hi None = Hunting (system t) (state_in w) lo hi
 
 -- ---- storing
 
@@ -65,10 +62,10 @@ pub record Crowded (K : ℕ) (w w' : List ℕ) (n : ℕ) (u : State) : Type 0 wh
   pub absent : Holds (state_in w) n u → ⊥
   pub same : w' ≡ w
 
-abbrev pub Attempted : ℕ → List ℕ → List ℕ → List ℕ → List ℕ → ℕ → State → ℕ → ℕ → Attempt → Type 0
-Attempted K w w' heads heads' n u i m Attempt.Nothing = Known w w' heads heads' n u
-Attempted K w w' heads heads' n u i m Attempt.New = Added K w w' heads heads' n u i m
-Attempted K w w' heads heads' n u i m Attempt.Full = Crowded K w w' n u
+-- how many slots are filled then, or there was no room
+abbrev pub Attempted : ℕ → List ℕ → List ℕ → List ℕ → List ℕ → ℕ → State → ℕ → ℕ → Option ℕ → Type 0
+Attempted K w w' heads heads' n u i m (Some n') = ((n' ≡ n) × Known w w' heads heads' n u) ⊎ ((n' ≡ n + 1) × Added K w w' heads heads' n u i m)
+Attempted K w w' heads heads' n u i m None = Crowded K w w' n u
 
 -- from n to n' slots, of which the states of the first n stay, and so do the bytes that are in none of the n'
 pub record Kept (K : ℕ) (w w' : List ℕ) (n n' : ℕ) : Type 0 where
@@ -106,9 +103,9 @@ pub record RowFull (t : Table) (K : ℕ) (w w' : List ℕ) (n i : ℕ) : Type 0 
   pub rest : Stays (columns K) K w w'
   pub overfull : (ends : List ℕ) → Marked ends i n → (lo hi d : ℕ) → lo ≤ i → i < hi → FillingIn t K ends w lo hi n d (Before i) → Overfull t K ends w'
 
-abbrev pub RowIs : Table → ℕ → List ℕ → List ℕ → List ℕ → ℕ → ℕ → Filled → Type 0
-RowIs t K w w' heads' n i (Filled.Upto n') = RowDone t K w w' heads' n n' i
-RowIs t K w w' heads' n i Filled.Full = RowFull t K w w' n i
+abbrev pub RowIs : Table → ℕ → List ℕ → List ℕ → List ℕ → ℕ → ℕ → Option ℕ → Type 0
+RowIs t K w w' heads' n i (Some n') = RowDone t K w w' heads' n n' i
+RowIs t K w w' heads' n i None = RowFull t K w w' n i
 
 -- what a block asks: n slots, those from lo to hi - 1 among them, with proper states and all of one block
 pub record BlockReady (t : Table) (K : ℕ) (w heads : List ℕ) (n lo hi : ℕ) : Type 0 where
@@ -138,9 +135,9 @@ pub record BlockFull (t : Table) (K : ℕ) (w w' : List ℕ) (n lo hi : ℕ) : T
       (ends : List ℕ) → Marked ends lo n → (first last d : ℕ) → first ≤ lo → hi ≤ last → FillingIn t K ends w first last n d (Before lo)
       → Overfull t K ends w'
 
-abbrev pub BlockIs : Table → ℕ → List ℕ → List ℕ → List ℕ → ℕ → ℕ → ℕ → Filled → Type 0
-BlockIs t K w w' heads' n lo hi (Filled.Upto n') = BlockDone t K w w' heads' n n' lo hi
-BlockIs t K w w' heads' n lo hi Filled.Full = BlockFull t K w w' n lo hi
+abbrev pub BlockIs : Table → ℕ → List ℕ → List ℕ → List ℕ → ℕ → ℕ → ℕ → Option ℕ → Type 0
+BlockIs t K w w' heads' n lo hi (Some n') = BlockDone t K w w' heads' n n' lo hi
+BlockIs t K w w' heads' n lo hi None = BlockFull t K w w' n lo hi
 
 -- the level is done, or there was no room; ends' are the ends then
 pub record LevelDone (t : Table) (K : ℕ) (ends ends' w w' heads' : List ℕ) (lo hi n : ℕ) : Type 0 where
@@ -155,9 +152,9 @@ pub record LevelFull (t : Table) (K : ℕ) (ends ends' w w' : List ℕ) (lo hi :
   pub last : get_or ends' 244 0 ≡ 1000000
   pub overfull : (d : ℕ) → FillingIn t K ends w lo hi hi d (Before lo) → Overfull t K ends' w'
 
-abbrev pub LevelIs : Table → ℕ → List ℕ → List ℕ → List ℕ → List ℕ → List ℕ → ℕ → ℕ → Filled → Type 0
-LevelIs t K ends ends' w w' heads' lo hi (Filled.Upto n) = LevelDone t K ends ends' w w' heads' lo hi n
-LevelIs t K ends ends' w w' heads' lo hi Filled.Full = LevelFull t K ends ends' w w' lo hi
+abbrev pub LevelIs : Table → ℕ → List ℕ → List ℕ → List ℕ → List ℕ → List ℕ → ℕ → ℕ → Option ℕ → Type 0
+LevelIs t K ends ends' w w' heads' lo hi (Some n) = LevelDone t K ends ends' w w' heads' lo hi n
+LevelIs t K ends ends' w w' heads' lo hi None = LevelFull t K ends ends' w w' lo hi
 
 -- ---- the levels
 

@@ -6,7 +6,7 @@ ghost use Rattle.tasks.specs.Words.{state_of};
 ghost use Rattle.search.specs.Indexed.{bucket_for, tag_for, Indexed, HeldIs, Pushed};
 
 use slots::{link_of, put_slot, word_of};
-use states::{Key, key_in, key_of, mix, same_keys};
+use states::{Key, key_in, key_of, mix};
 
 // The bucket of a key, of `size` buckets: a power of two, for an even spread.
 fn bucket(key: Key, size: usize) -> usize
@@ -39,7 +39,7 @@ pub(crate) fn holds(work: &[u8], heads: &[u32], k: usize, n: usize, v: [u16; 8])
     let mut cur = (head % 1048576) as usize;
     while 0 < cur {
         let j = cur - 1;
-        if same_keys(key_in(work, j), key) {
+        if key_in(work, j) == key {
             return true;
         }
         cur = link_of(work, k, j);

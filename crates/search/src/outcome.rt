@@ -11,10 +11,8 @@ fn write_trace(work: &[u8], trace: &mut [u8], k: usize, i: usize, d: usize, m: u
     ensures { trace.new ≡ traced k work.now trace.old i d m }
 {
     trace[d] = m;
-    let mut at = d;
     let mut j = i;
-    while 0 < at {
-        at -= 1;
+    for at in (0..d).rev() {
         trace[at] = mask_of(work, k, j);
         j = parent_of(work, k, j) as usize;
     }

@@ -3,9 +3,9 @@ ghost use Rattle.std.specs.Prelude.{◌≡◌};
 ghost use Rattle.tasks.specs.Ticker.{ticker_of};
 ghost use Rattle.search.specs.Keeping.{Fresh, RanBy};
 
-use crate::hunt::{HuntAnswer, hunt};
+use crate::hunt::hunt;
 use crate::index::push;
-use crate::store::{Filled, store_level};
+use crate::store::store_level;
 use tasks::{Table, Ticker};
 
 // Safe with the count; Unsafe with L and the count; No room with the count; or a refusal's number.
@@ -44,26 +44,17 @@ pub(crate) fn run_levels(
     let mut hi: usize = 1;
     let mut d: usize = 0;
     loop {
-        let found = hunt(t, ticker, work, lo, hi);
-        match found {
-            HuntAnswer::Miss(i, m) => {
-                return End::Missed(i, m, d, hi);
-            }
-            HuntAnswer::Clear => {}
+        if let Some((i, m)) = hunt(t, ticker, work, lo, hi) {
+            return End::Missed(i, m, d, hi);
         }
-        let filled = store_level(t, ticker, work, heads, ends, k, lo, hi);
-        match filled {
-            Filled::Full => {
-                return End::Full;
-            }
-            Filled::Upto(n) => {
-                if n == hi {
-                    return End::Closed(hi);
-                }
-                lo = hi;
-                hi = n;
-                d += 1;
-            }
+        let Some(n) = store_level(t, ticker, work, heads, ends, k, lo, hi) else {
+            return End::Full;
+        };
+        if n == hi {
+            return End::Closed(hi);
         }
+        lo = hi;
+        hi = n;
+        d += 1;
     }
 }

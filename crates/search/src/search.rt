@@ -1,5 +1,5 @@
 // The public calls: the search of a table and the search of a sheet.
-ghost use Rattle.std.specs.Prelude.{◌≡◌, ◌/◌, min};
+ghost use Rattle.std.specs.Prelude.{◌≡◌, ◌/◌, ◌<◌, ◌≤◌, min};
 ghost use Rattle.tasks.specs.Table.{table_fault};
 ghost use Rattle.slots.specs.Layout.{columns};
 ghost use Rattle.search.specs.Claim.{slots_in, spaces_refusal, figures, Found, Search, TableSearch, SheetSearch};
@@ -49,61 +49,37 @@ fn finish(work: &mut [u8], trace: &mut [u8], ends: &[u32], k: usize, end: End) -
     report(work, trace, k, end)
 }
 
-// Up to 16,384 slots: 16 KB of heads on the stack.
+// The search with this many heads on the stack. It is kept out of line, so that each number of heads stands in a frame of its own and a small
+// work space does not pay a large one's stack.
 #[inline(never)]
-fn search_small(t: Table, work: &mut [u8], trace: &mut [u8], k: usize) -> SearchAnswer
-    requires { Lent t work.old trace.old k }
+fn search_with<const HEADS: usize>(
+    t: Table,
+    work: &mut [u8],
+    trace: &mut [u8],
+    k: usize,
+) -> SearchAnswer
+    requires lent { Lent t work.old trace.old k }
+    requires heads { (0 < HEADS) × (HEADS ≤ 262144) }
     ensures { Found (columns k) k t work.old work.new trace.old trace.new (figures result) }
 {
-    let mut heads = [0u32; 4096];
+    let mut heads = [0u32; HEADS];
     let mut ends = [1000000u32; 245];
     let end = search_levels(t, work, &mut heads, &mut ends, k);
     finish(work, trace, &ends, k, end)
 }
 
-// Up to 262,144 slots: 256 KB of heads.
-#[inline(never)]
-fn search_medium(t: Table, work: &mut [u8], trace: &mut [u8], k: usize) -> SearchAnswer
+// The search with the heads for a work space of k slots: 16 KB, 256 KB or 1 MB.
+fn search_sized(t: Table, work: &mut [u8], trace: &mut [u8], k: usize) -> SearchAnswer
     requires { Lent t work.old trace.old k }
     ensures { Found (columns k) k t work.old work.new trace.old trace.new (figures result) }
 {
-    let mut heads = [0u32; 65536];
-    let mut ends = [1000000u32; 245];
-    let end = search_levels(t, work, &mut heads, &mut ends, k);
-    finish(work, trace, &ends, k, end)
-}
-
-// Up to 1,000,000 slots: 1 MB of heads.
-#[inline(never)]
-fn search_large(t: Table, work: &mut [u8], trace: &mut [u8], k: usize) -> SearchAnswer
-    requires { Lent t work.old trace.old k }
-    ensures { Found (columns k) k t work.old work.new trace.old trace.new (figures result) }
-{
-    let mut heads = [0u32; 262144];
-    let mut ends = [1000000u32; 245];
-    let end = search_levels(t, work, &mut heads, &mut ends, k);
-    finish(work, trace, &ends, k, end)
-}
-
-// The search with the heads for a work space of k slots, chosen step by step from the fewest on. Each size's function is kept out of line,
-// so that its heads stand in a frame of their own and a small work space does not pay a large one's stack.
-fn search_sized(t: Table, work: &mut [u8], trace: &mut [u8], k: usize, step: usize) -> SearchAnswer
-    requires { Lent t work.old trace.old k }
-    ensures { Found (columns k) k t work.old work.new trace.old trace.new (figures result) }
-{
-    if 1 < step {
-        return search_large(t, work, trace, k);
-    }
-    if step == 1 {
-        if k <= 262144 {
-            return search_medium(t, work, trace, k);
-        }
-        return search_sized(t, work, trace, k, 2);
-    }
     if k <= 16384 {
-        return search_small(t, work, trace, k);
+        return search_with::<4096>(t, work, trace, k);
     }
-    search_sized(t, work, trace, k, 1)
+    if k <= 262144 {
+        return search_with::<65536>(t, work, trace, k);
+    }
+    search_with::<262144>(t, work, trace, k)
 }
 
 // The search of a valid table.
@@ -118,7 +94,7 @@ fn search_valid(t: Table, work: &mut [u8], trace: &mut [u8]) -> SearchAnswer
     if trace.len() < k {
         return SearchAnswer::Refused(10);
     }
-    search_sized(t, work, trace, k, 0)
+    search_sized(t, work, trace, k)
 }
 
 // The search of a table.

@@ -8,25 +8,10 @@ ghost use Rattle.search.specs.Keeping.{Level, Attempted, RowReady, RowIs, BlockR
 
 use crate::index::{holds, push};
 use slots::{block_upto, end_slot};
-use states::{follow, words_in};
+use states::{masks_of, words_in};
 use tasks::{Prepared, Table, Ticker};
 
-// What becomes of a state under a mask: nothing new, a new slot, or no room for one.
-#[derive(Clone, Copy)]
-pub(crate) enum Attempt {
-    Nothing,
-    New,
-    Full,
-}
-
-// How far the slots are filled: up to a number, or there was no room.
-#[derive(Clone, Copy)]
-pub(crate) enum Filled {
-    Upto(usize),
-    Full,
-}
-
-// Stores what the state of slot i leads to under a mask, where it is new.
+// Stores what the state of slot i leads to under a mask, where it is new. How many slots are filled then, or none where there is no room.
 fn try_mask(
     ticker: Ticker,
     work: &mut [u8],
@@ -36,19 +21,19 @@ fn try_mask(
     n: usize,
     i: usize,
     mask: u8,
-) -> Attempt
+) -> Option<usize>
     requires { Indexed k work.old heads.old n }
     ensures { Attempted k work.old work.new heads.old heads.new n (state_of (ticked_by ticker state mask)) i mask result }
 {
     let next = ticker.after(state, mask);
     if holds(work, heads, k, n, next) {
-        return Attempt::Nothing;
+        return Some(n);
     }
     if n == k {
-        return Attempt::Full;
+        return None;
     }
     push(work, heads, k, n, next, i, mask);
-    Attempt::New
+    Some(n + 1)
 }
 
 // Stores the successors of slot i under its legal masks that are new; `from` slots are filled before.
@@ -60,30 +45,17 @@ fn store_row(
     k: usize,
     from: usize,
     i: usize,
-) -> Filled
+) -> Option<usize>
     requires { (ticker ≡ ticker_of t) × RowReady t k work.old heads.old from i }
     ensures { RowIs t k work.old work.new heads.new from i result }
 {
     let v = words_in(work, i);
-    let free = ticker.free(v);
     let state = ticker.prepare(v);
     let mut n = from;
-    let mut m: u16 = 0;
-    while m < 256 {
-        let mask = m as u8;
-        let a = try_mask(ticker, work, heads, state, k, n, i, mask);
-        match a {
-            Attempt::Nothing => {}
-            Attempt::New => {
-                n += 1;
-            }
-            Attempt::Full => {
-                return Filled::Full;
-            }
-        }
-        m = follow(free, mask);
+    for mask in masks_of(ticker.free(v)) {
+        n = try_mask(ticker, work, heads, state, k, n, i, mask)?;
     }
-    Filled::Upto(n)
+    Some(n)
 }
 
 // Stores the successors of the slots from lo to hi - 1, all of one block, that are new; `from` slots are filled before.
@@ -96,25 +68,15 @@ fn store_block(
     from: usize,
     lo: usize,
     hi: usize,
-) -> Filled
+) -> Option<usize>
     requires { (ticker ≡ ticker_of t) × BlockReady t k work.old heads.old from lo hi }
     ensures { BlockIs t k work.old work.new heads.new from lo hi result }
 {
     let mut n = from;
-    let mut i = lo;
-    while i < hi {
-        let row = store_row(t, ticker, work, heads, k, n, i);
-        match row {
-            Filled::Upto(more) => {
-                n = more;
-            }
-            Filled::Full => {
-                return Filled::Full;
-            }
-        }
-        i += 1;
+    for i in lo..hi {
+        n = store_row(t, ticker, work, heads, k, n, i)?;
     }
-    Filled::Upto(n)
+    Some(n)
 }
 
 // Stores the successors of the slots from lo to hi - 1 that are new, block by block: the loop over slots then asks for nothing but their masks.
@@ -127,7 +89,7 @@ pub(crate) fn store_level(
     k: usize,
     lo: usize,
     hi: usize,
-) -> Filled
+) -> Option<usize>
     requires { (ticker ≡ ticker_of t) × (lo ≤ hi) × Level t work.old hi × Indexed k work.old heads.old hi × Marked ends.old lo hi }
     ensures { LevelIs t k ends.old ends.new work.old work.new heads.new lo hi result }
 {
@@ -135,17 +97,9 @@ pub(crate) fn store_level(
     let mut i = lo;
     while i < hi {
         let to = block_upto(i, hi);
-        let block = store_block(t, ticker, work, heads, k, n, i, to);
-        match block {
-            Filled::Upto(more) => {
-                n = more;
-            }
-            Filled::Full => {
-                return Filled::Full;
-            }
-        }
+        n = store_block(t, ticker, work, heads, k, n, i, to)?;
         end_slot(ends, to - 1, n);
         i = to;
     }
-    Filled::Upto(n)
+    Some(n)
 }

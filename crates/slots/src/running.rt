@@ -20,8 +20,7 @@ pub fn block_upto(i: usize, hi: usize) -> usize
     requires { (i < hi) × (hi ≤ 1000000) }
     ensures { (i < result) × (result ≤ hi) × (result ≤ 4096 * (i / 4096 + 1)) }
 {
-    let end = 4096 * (i / 4096 + 1);
-    if end < hi { end } else { hi }
+    hi.min(4096 * (i / 4096 + 1))
 }
 
 // Slot i has been tried, and n slots are filled: where it is the last of its block, that is the block's end.
@@ -30,8 +29,7 @@ pub fn end_slot(ends: &mut [u32], i: usize, n: usize)
     ensures { ends.new ≡ ends_after ends.old i n }
 {
     if i % 4096 == 4095 {
-        let b = i / 4096;
-        ends[b] = n as u32;
+        ends[i / 4096] = n as u32;
     }
 }
 
@@ -40,9 +38,8 @@ fn settle_slot(work: &mut [u8], k: usize, b: usize, i: usize)
     requires { (i < k) × (21 * k ≤ length work.old) × (b < 245) }
     ensures { work.new ≡ sets work.old (16 * k + 4 * i) (four_bytes (4096 * b + word_at k work.old i / 1048576)) }
 {
-    let at = 16 * k + 4 * i;
     let parent = 4096 * (b as u32) + parent_of(work, k, i) / 1048576;
-    put_parent(&mut work[at..], parent);
+    put_parent(&mut work[16 * k + 4 * i..], parent);
 }
 
 // Writes the parents of the slots from `from` to `to` - 1, all of block b, and says how many slots have theirs then.
@@ -50,21 +47,10 @@ fn settle_block(work: &mut [u8], k: usize, b: usize, from: usize, to: usize) -> 
     requires { (to ≤ k) × (21 * k ≤ length work.old) × (b < 245) }
     ensures { BlockSettled k b from to work.old work.new result }
 {
-    let mut i = from;
-    while i < to {
+    for i in from..to {
         settle_slot(work, k, b, i);
-        i += 1;
     }
-    i
-}
-
-// How many of n slots have parents of block b or of one before it: the block's end, or n where that is above n.
-fn end_within(ends: &[u32], b: usize, n: usize) -> usize
-    requires { b < length ends.now }
-    ensures { (result ≤ get_or ends.now b 0) × (result ≤ n) × (result < n → result ≡ get_or ends.now b 0) }
-{
-    let end = ends[b] as usize;
-    if end < n { end } else { n }
+    from.max(to)
 }
 
 // Writes the parents of the first n slots of k, block by block.
@@ -72,11 +58,11 @@ pub fn settle(work: &mut [u8], ends: &[u32], k: usize, n: usize)
     requires { (n ≤ k) × (21 * k ≤ length work.old) × (length ends.now ≡ 245) × (n ≤ get_or ends.now 244 0) }
     ensures { Settled k ends.now work.old work.new n }
 {
-    let mut b: usize = 0;
     let mut from: usize = 0;
-    while from < n {
-        let to = end_within(ends, b, n);
-        from = settle_block(work, k, b, from, to);
-        b += 1;
+    for (b, end) in ends.iter().enumerate() {
+        if from == n {
+            break;
+        }
+        from = settle_block(work, k, b, from, n.min(*end as usize));
     }
 }

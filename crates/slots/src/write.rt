@@ -14,11 +14,9 @@ fn put_state(part: &mut [u8], v: [u16; 8])
     requires { 16 ≤ length part.old }
     ensures { part.new ≡ sets part.old 0 (state_bytes (state_of v)) }
 {
-    let mut k: usize = 0;
-    while k < 8 {
+    for k in 0..8 {
         part[2 * k] = work_in(v[k]);
         part[2 * k + 1] = gap_in(v[k]);
-        k += 1;
     }
 }
 
@@ -27,10 +25,7 @@ pub(crate) fn put_parent(part: &mut [u8], x: u32)
     requires { 4 ≤ length part.old }
     ensures { part.new ≡ sets part.old 0 (four_bytes x) }
 {
-    part[0] = (x % 256) as u8;
-    part[1] = (x / 256 % 256) as u8;
-    part[2] = (x / 65536 % 256) as u8;
-    part[3] = (x / 16777216 % 256) as u8;
+    part[..4].copy_from_slice(&x.to_le_bytes());
 }
 
 // Writes the byte of a mask.
@@ -46,12 +41,9 @@ pub fn put_slot(work: &mut [u8], k: usize, i: usize, v: [u16; 8], parent: u32, m
     requires { (i < k) × (21 * k ≤ length work.old) }
     ensures { work.new ≡ write_slot (columns k) work.old i (slot (state_of v) parent mask) }
 {
-    let first = 16 * i;
-    put_state(&mut work[first..], v);
-    let second = 16 * k + 4 * i;
-    put_parent(&mut work[second..], parent);
-    let third = 20 * k + i;
-    put_mask(&mut work[third..], mask);
+    put_state(&mut work[16 * i..], v);
+    put_parent(&mut work[16 * k + 4 * i..], parent);
+    put_mask(&mut work[20 * k + i..], mask);
 }
 
 // Writes the sixteen bytes of a state at the front of the space, where it is long enough.

@@ -1,5 +1,5 @@
 -- The walk through the submasks of a byte visits each of them once, in increasing order; they are the legal masks. Assumes nothing.
-use Rattle.std.proofs.Common.{◌≡◌, ℕ, zero, suc, ◌+◌, ◌-◌, ◌%◌, ◌<◌, ◌≤◌, Bool, true, false, not, ◌||◌, eqb, ◌⊎◌, sym, refl, ap, ◌∙◌, arith, eq-eqb, ne_eqb, eqb-true}
+use Rattle.std.proofs.Common.{◌≡◌, ℕ, zero, suc, ◌+◌, ◌-◌, ◌<◌, ◌≤◌, Bool, true, false, not, ◌||◌, eqb, ◌⊎◌, sym, refl, ap, ◌∙◌, arith, eq-eqb, ne_eqb, eqb-true}
 use mathlib.Core.Logic.◌⊎◌.{inl, inr}
 use native.Mathlib.Decide.{ℕ_discrete, dec_lt}
 use Rattle.lists.specs.Lists.{pick}
@@ -10,7 +10,8 @@ use Rattle.tasks.specs.declared.table.Table.{Table}
 use Rattle.lists.proofs.Bools.{clash, and_left, and_right, both}
 use Rattle.tasks.proofs.Legal.{legal_bit, bits_legal}
 use Rattle.tasks.proofs.Free.{free_bit, may, may_be}
-use Rattle.states.specs.Masks.{next_mask, follows}
+use Rattle.states.specs.Masks.{next_mask, follows, place, AtMask, Stepped}
+use Rattle.states.specs.declared.masks.Masks.{Masks}
 use Rattle.states.proofs.MaskTest.{all, submask, same, checks, every}
 
 same_is : (a b : Bool) → same a b ≡ true → a ≡ b
@@ -132,9 +133,24 @@ module _ (Q : ℕ → Type 0) {free : ℕ} (small : free < 256) where
   pub walked_falls : {m : ℕ} → Walked Q free m → m < 256 → m < follows free m
   walked_falls {m} x h = let f = next_submask free m small h (x.is h) in omega (arith, f.up)
 
--- a difference that wraps
-pub wrapped : (r f m : ℕ) → r < 256 → f < 256 → m < 256 → (r + f) % 256 ≡ m → r ≡ (m + (256 - f)) % 256
-wrapped r f m a b c e = omega arith
+-- ---- the walk as an iterator
+
+module _ {walk walk' : Masks} {m : ℕ} (x : AtMask walk) (y : Stepped walk walk' m) where
+  -- the mask that it gives is a submask
+  pub walk_at : submask walk.free m ≡ true
+  walk_at = rw y.here at (x.is (rw y.here y.small))
+
+  -- it goes up, to another mask or to the end
+  pub walk_up : AtMask walk' × (256 - place walk'.next < 256 - place walk.next)
+  walk_up =
+      let g = next_submask walk.free m x.small y.small walk_at in
+      (record { small = rw y.free x.small; most = rw y.next g.most; is = rw (y.free, y.next) g.is }, rw (y.next, y.here) (omega (arith, g.up, g.most)))
+
+  pub walk_next : (Q : ℕ → Type 0) → Walked Q walk.free (place walk.next) → Q m → Walked Q walk'.free (place walk'.next)
+  walk_next Q w q = rw (y.free, y.next) (walked_next Q x.small (rw y.here at w) y.small q)
+
+pub walk_start : (Q : ℕ → Type 0) {walk : Masks} → AtMask walk → place walk.next ≡ 0 → Walked Q walk.free (place walk.next)
+walk_start Q x e = rw e (walked_start Q x.small)
 
 -- the two cases of `follows`
 pub follows_end : (free m : ℕ) → next_mask free m ≡ 0 → 256 ≡ follows free m

@@ -1,17 +1,8 @@
 -- The submasks of a byte, and the rule of the next one computed for every byte. Assumes nothing.
-use Rattle.std.proofs.Common.{◌≡◌, ℕ, zero, suc, Bool, true, false, not, ◌&&◌, ◌||◌, eqb, refl}
+use Rattle.std.proofs.Common.{◌≡◌, ℕ, zero, suc, Bool, true, false, not, ◌&&◌, eqb, refl}
 use Rattle.lists.specs.Lists.{pick}
-use Rattle.tasks.specs.Tick.{bit}
+unfoldable pub use Rattle.states.specs.Masks.{all, submask}
 use Rattle.states.specs.Masks.{next_mask, follows}
-
--- whether every number below n passes the test
-unfoldable pub all : ℕ → (ℕ → Bool) → Bool
-all zero p = true
-all (suc n) p = p n && all n p
-
--- every set bit of m is set in free
-unfoldable pub submask : ℕ → ℕ → Bool
-submask free m = all 8 (λ i. not (bit m i) || bit free i)
 
 abbrev pub same : Bool → Bool → Bool
 same true b = b

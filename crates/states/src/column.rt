@@ -4,15 +4,15 @@ ghost use Rattle.tasks.specs.Words.{state_of};
 ghost use Rattle.states.specs.Bytes.{four_at, state_in};
 ghost use Rattle.states.specs.Keys.{key_in};
 
-use crate::keys::{Key, joined};
+use crate::keys::Key;
 use crate::words::words_from;
 
-// The number in the four bytes from `at` on.
+// The number in the four bytes from `at` on, low byte first.
 pub fn four_at(bytes: &[u8], at: usize) -> u32
     requires { at + 4 ≤ length bytes.now }
     ensures { result ≡ four_at bytes.now at }
 {
-    joined(bytes[at], bytes[at + 1], bytes[at + 2], bytes[at + 3])
+    u32::from_le_bytes([bytes[at], bytes[at + 1], bytes[at + 2], bytes[at + 3]])
 }
 
 // The key of state i.

@@ -3,23 +3,12 @@ ghost use Rattle.std.specs.Prelude.{◌≡◌, ◌+◌, ◌*◌, ◌≤◌, leng
 ghost use Rattle.tasks.specs.Words.{state_of};
 ghost use Rattle.states.specs.Bytes.{state_from};
 
-// The number of two bytes, low byte first.
-fn two(x: u8, y: u8) -> u16
-    ensures { result ≡ x + 256 * y }
-{
-    (x as u16) + 256 * (y as u16)
-}
+use std::array;
 
 // The words of the state in the sixteen bytes from `at` on, which must be there. In this form the compiler reads them as one vector.
 pub(crate) fn words_from(bytes: &[u8], at: usize) -> [u16; 8]
     requires { at + 16 ≤ length bytes.now }
     ensures { state_of result ≡ state_from bytes.now at }
 {
-    let mut v = [0u16; 8];
-    let mut k: usize = 0;
-    while k < 8 {
-        v[k] = two(bytes[at + 2 * k], bytes[at + 2 * k + 1]);
-        k += 1;
-    }
-    v
+    array::from_fn(|k| u16::from_le_bytes([bytes[at + 2 * k], bytes[at + 2 * k + 1]]))
 }

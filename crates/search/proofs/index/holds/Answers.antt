@@ -4,7 +4,7 @@ use Rattle.tasks.specs.Words.{state_of}
 use Rattle.levels.proofs.Index.{walk_start, walk_next, walk_falls, walk_end}
 use Rattle.search.specs.Indexed.{bucket_of, tag_of, newest, tags_in}
 use Rattle.states.proofs.WordLaws.{word_bytes}
-use Rattle.states.proofs.KeyLaws.{Bytes, keys_same, keys_differ}
+use Rattle.states.proofs.KeyLaws.{Bytes, keys_eq, keys_same, keys_differ}
 use Rattle.search.proofs.IndexLaws.{keyed, not_tagged}
 use Rattle.states.proofs.ColumnLaws.{held, held_key}
 use native.Mathlib.Omega.{arith}
@@ -26,9 +26,9 @@ pub loop-cur-init : goal.loop-cur-init
 unfolding newest
 loop-cur-init c = rw c.bucket-b.ensures.0 (walk_start (keyed c.requires) c.key_of-key.result)
 
-pub returns-then-same_keys : goal.returns-then-same_keys
-returns-then-same_keys c =
-    let e = keys_same _ _ (sym c.same_keys.ensures ∙ c.if-same_keys.true) in
+pub returns-then-eq : goal.returns-then-eq
+returns-then-eq c =
+    let e = keys_same _ _ (sym (c.eq.ensures ∙ keys_eq _ _) ∙ c.if-eq.true) in
     held _ (state_of c.args.v) c.type_inv.work (let it : Bytes (state_of c.args.v) = word_bytes c.args.v (λ k b. search rules) in it)
     (record { place = c.loop-cur.cur - 1; below = omega (arith, c.loop-cur.invariant.low); same = sym c.key_in.ensures ∙ e ∙ c.key_of-key.ensures })
 
@@ -44,7 +44,7 @@ loop-cur-smaller c =
 
 pub loop-cur-preserved : goal.loop-cur-preserved
 loop-cur-preserved c =
-    let differ = keys_differ _ _ (sym c.same_keys.ensures ∙ c.if-same_keys.false) in
+    let differ = keys_differ _ _ (sym (c.eq.ensures ∙ keys_eq _ _) ∙ c.if-eq.false) in
     rw c.link_of-cur.ensures
     (walk_next (keyed c.requires) c.key_of-key.result c.loop-cur.cur (omega arith) c.loop-cur.invariant
     (λ q. differ (c.key_in.ensures ∙ q)))

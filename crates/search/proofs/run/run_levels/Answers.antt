@@ -11,61 +11,28 @@ pub loop-i-init : goal.loop-i-init
 unfolding state_of
 loop-i-init c = (refl, refl, first_stands c.requires.1 refl c.push.ensures)
 
-pub hunt-found-requires : goal.hunt-found-requires
-hunt-found-requires c =
+pub hunt-requires : goal.hunt-requires
+hunt-requires c =
     let stands = c.loop-i.invariant.2 in
     let order = stands.standing.explored.order in
     (c.requires.0, omega arith, stands_level c.requires.1 stands)
 
-pub shape_of-work-in-Miss : goal.shape_of-work-in-Miss
-shape_of-work-in-Miss c = c.loop-i.invariant.2.len ∙ c.push.auto.work
+pub returns-in-Some : goal.returns-in-Some
+returns-in-Some c = record { is = ran_miss c.requires.1 c.loop-i.invariant.2 c.push.ensures.rest c.in-Some.ensures }
 
-pub shape_of-heads-in-Miss : goal.shape_of-heads-in-Miss
-shape_of-heads-in-Miss c = c.loop-i.invariant.0 ∙ c.push.auto.heads
-
-pub shape_of-ends-in-Miss : goal.shape_of-ends-in-Miss
-shape_of-ends-in-Miss c = c.loop-i.invariant.1
-
-pub returns-in-Miss : goal.returns-in-Miss
-returns-in-Miss c =
-    let miss = rw c.in-Miss.is at c.hunt-found.ensures in
-    record { is = ran_miss c.requires.1 c.loop-i.invariant.2 c.push.ensures.rest miss }
-
-pub store_level-filled-requires : goal.store_level-filled-requires
-store_level-filled-requires c =
+pub store_level-requires : goal.store_level-requires
+store_level-requires c =
     let stands = c.loop-i.invariant.2 in
     let order = stands.standing.explored.order in
     (c.requires.0, omega arith, stands_level c.requires.1 stands, stands.indexed, stands.marked)
 
-pub shape_of-work-in-Full : goal.shape_of-work-in-Full
-shape_of-work-in-Full c = c.store_level-filled.auto.work ∙ c.loop-i.invariant.2.len ∙ c.push.auto.work
-
-pub shape_of-heads-in-Full : goal.shape_of-heads-in-Full
-shape_of-heads-in-Full c = c.store_level-filled.auto.heads ∙ c.loop-i.invariant.0 ∙ c.push.auto.heads
-
-pub shape_of-ends-in-Full : goal.shape_of-ends-in-Full
-shape_of-ends-in-Full c = c.store_level-filled.auto.ends ∙ c.loop-i.invariant.1
-
-pub returns-in-Full : goal.returns-in-Full
-returns-in-Full c =
-    let clear = rw c.in-Clear.is at c.hunt-found.ensures in
-    let full = rw c.in-Full.is at c.store_level-filled.ensures in
-    record { is = ran_full c.requires.1 c.loop-i.invariant.2 c.push.ensures.rest clear full }
-
-pub shape_of-work-then-n-hi : goal.shape_of-work-then-n-hi
-shape_of-work-then-n-hi c = c.store_level-filled.auto.work ∙ c.loop-i.invariant.2.len ∙ c.push.auto.work
-
-pub shape_of-heads-then-n-hi : goal.shape_of-heads-then-n-hi
-shape_of-heads-then-n-hi c = c.store_level-filled.auto.heads ∙ c.loop-i.invariant.0 ∙ c.push.auto.heads
-
-pub shape_of-ends-then-n-hi : goal.shape_of-ends-then-n-hi
-shape_of-ends-then-n-hi c = c.store_level-filled.auto.ends ∙ c.loop-i.invariant.1
+pub returns-in_default-store_level : goal.returns-in_default-store_level
+returns-in_default-store_level c =
+    record { is = ran_full c.requires.1 c.loop-i.invariant.2 c.push.ensures.rest c.in_default.ensures c.in_default-store_level.ensures }
 
 pub returns-then-n-hi : goal.returns-then-n-hi
 returns-then-n-hi c =
-    let clear = rw c.in-Clear.is at c.hunt-found.ensures in
-    let done = rw c.in-Upto.is at c.store_level-filled.ensures in
-    record { is = ran_safe c.requires.1 c.loop-i.invariant.2 c.push.ensures.rest clear done c.if-n-hi.true }
+    record { is = ran_safe c.requires.1 c.loop-i.invariant.2 c.push.ensures.rest c.in_default.ensures c.in-Some-store_level.ensures c.if-n-hi.true }
 
 pub overflow_add-d : goal.overflow_add-d
 overflow_add-d c =
@@ -77,7 +44,7 @@ overflow_add-d c =
 
 pub loop-i-smaller : goal.loop-i-smaller
 loop-i-smaller c =
-    let done = rw c.in-Upto.is at c.store_level-filled.ensures in
+    let done = c.in-Some-store_level.ensures {u = tt} in
     let a = done.kept.order in
     let b = done.indexed.room in
     let ne = c.if-n-hi.false in
@@ -85,7 +52,8 @@ loop-i-smaller c =
 
 pub loop-i-preserved : goal.loop-i-preserved
 loop-i-preserved c =
-    let clear = rw c.in-Clear.is at c.hunt-found.ensures in
-    let done = rw c.in-Upto.is at c.store_level-filled.ensures in
-    let store = c.store_level-filled in
-    (store.auto.heads ∙ c.loop-i.invariant.0, store.auto.ends ∙ c.loop-i.invariant.1, next_stands c.requires.1 c.loop-i.invariant.2 clear done c.if-n-hi.false)
+    let store = c.store_level in (
+      store.auto.heads ∙ c.loop-i.invariant.0,
+      store.auto.ends ∙ c.loop-i.invariant.1,
+      next_stands c.requires.1 c.loop-i.invariant.2 c.in_default.ensures c.in-Some-store_level.ensures c.if-n-hi.false,
+    )

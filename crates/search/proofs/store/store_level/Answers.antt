@@ -11,33 +11,23 @@ loop-i-init c =
 pub block_upto-to-requires : goal.block_upto-to-requires
 block_upto-to-requires c = (c.loop-i-test.true, level_low c.loop-i.invariant.3)
 
-pub store_block-block-requires : goal.store_block-block-requires
-store_block-block-requires c =
+pub store_block-requires : goal.store_block-requires
+store_block-requires c =
     let r = c.requires in
     let to = c.block_upto-to.ensures in
     (r.0, level_ready c.loop-i.invariant.3 to.0 to.1 to.2 r.2)
 
-pub shape_of-work-in-Full : goal.shape_of-work-in-Full
-shape_of-work-in-Full c = c.store_block-block.auto.work ∙ c.loop-i.invariant.3.kept.len
-
-pub shape_of-heads-in-Full : goal.shape_of-heads-in-Full
-shape_of-heads-in-Full c = c.store_block-block.auto.heads ∙ c.loop-i.invariant.1
-
-pub shape_of-ends-in-Full : goal.shape_of-ends-in-Full
-shape_of-ends-in-Full c = c.loop-i.invariant.2
-
-pub returns-in-Full : goal.returns-in-Full
-returns-in-Full c =
-    let y = rw c.in-Full.is at c.store_block-block.ensures in
+pub returns-in_err-n : goal.returns-in_err-n
+returns-in_err-n c =
     let to = c.block_upto-to.ensures in
-    level_full c.loop-i.invariant.3 to.0 to.1 to.2 y
+    rw c.from_residual.ensures (level_full c.loop-i.invariant.3 to.0 to.1 to.2 c.in_err-n.ensures)
 
 pub overflow_sub-to : goal.overflow_sub-to
 overflow_sub-to c = let to = c.block_upto-to.ensures in omega (arith, to.0)
 
 pub end_slot-requires : goal.end_slot-requires
 end_slot-requires c =
-    let y = rw c.in-Upto.is at c.store_block-block.ensures in
+    let y = c.in_ok-n.ensures {u = tt} in
     let x = c.loop-i.invariant.3 in
     let to = c.block_upto-to.ensures in
     let low = level_low x in
@@ -50,14 +40,13 @@ loop-i-smaller c = let to = c.block_upto-to.ensures in omega (arith, to.0, to.1)
 
 pub loop-i-preserved : goal.loop-i-preserved
 loop-i-preserved c =
-    let y = rw c.in-Upto.is at c.store_block-block.ensures in
     let l = c.loop-i in
     let to = c.block_upto-to.ensures in
     let end = c.end_slot in (
       to.1,
-      c.store_block-block.auto.heads ∙ l.invariant.1,
+      c.store_block.auto.heads ∙ l.invariant.1,
       end.auto.ends ∙ l.invariant.2,
-      rw end.ensures (level_block l.invariant.3 to.0 to.1 to.2 y),
+      rw end.ensures (level_block l.invariant.3 to.0 to.1 to.2 c.in_ok-n.ensures),
     )
 
 pub shape_of-work : goal.shape_of-work

@@ -4,11 +4,10 @@ use Rattle.tasks.specs.Tick.{after}
 use Rattle.tasks.specs.Masks.{free_mask}
 use Rattle.tasks.proofs.InWords.{WordList}
 use Rattle.tasks.proofs.Free.{ticks, frees}
-use Rattle.search.proofs.StoreLaws.{RowBy, row_start, row_known, row_added, row_crowded, row_falls, row_end}
+use Rattle.search.proofs.StoreLaws.{row_start, row_stored, row_crowded, row_end}
 use native.Mathlib.Omega.{arith}
 use borrow.Author.Rules.{rules}
 use Rattle.search.proofs.store.store_row.Goals as goal
-use Rattle.search.proofs.store.store_row.Goals.{in-Nothing, in-New}
 
 pub words_in-v-requires : goal.words_in-v-requires
 words_in-v-requires c =
@@ -18,71 +17,50 @@ words_in-v-requires c =
     let h = r.below in
     omega arith
 
-pub loop-m-init : goal.loop-m-init
-loop-m-init c =
-    let at = c.words_in-v.ensures in (
-      omega arith,
+pub loop-mask-init : goal.loop-mask-init
+loop-mask-init c =
+    let at = c.words_in-v.ensures in
+    let start = c.masks_of-mask-items.ensures.start in
+    let words : WordList c.words_in-v.result = record { word = λ i h. search rules } in
+    rw c.into_iter-mask-iterator.ensures.into_iter_gives (
+      start.0,
+      tt,
       refl,
       λ t e ready. record {
-        is = frees t _ e c.free-free.ensures ∙ ap (free_mask t) at;
-        ticks = λ mask. ticks t _ e c.prepare-state.ensures ready.valid (ap (improper t) at ∙ ready.proper) (let it : WordList c.words_in-v.result = record { word = λ i h. search rules } in it) mask ∙ ap (λ s. after t s mask) at;
-        row = row_start ready refl (omega (arith, c.free-free.type_inv));
+        is = start.2 ∙ frees t _ e c.free.ensures ∙ ap (free_mask t) at;
+        ticks = λ mask. ticks t _ e c.prepare-state.ensures ready.valid (ap (improper t) at ∙ ready.proper) words mask ∙ ap (λ s. after t s mask) at;
+        row = rw start.1 (row_start ready refl start.0.small);
       },
     )
 
-pub try_mask-a-requires : goal.try_mask-a-requires
-try_mask-a-requires c =
-    (let it : RowBy c.args.t c.args.ticker c.prepare-state.result c.args.k c.args.work.now c.loop-m.work c.loop-m.heads c.args.from c.loop-m.n c.args.i c.free-free.result c.loop-m.m = c.loop-m.invariant.2 c.args.t c.requires.0 c.requires.1 in it).row.indexed
+pub try_mask-requires : goal.try_mask-requires
+try_mask-requires c = (c.loop-mask.invariant.3 c.args.t c.requires.0 c.requires.1).row.indexed
 
-pub overflow_add-n : goal.overflow_add-n
-overflow_add-n c = let x = (let it : RowBy c.args.t c.args.ticker c.prepare-state.result c.args.k c.args.work.now c.loop-m.work c.loop-m.heads c.args.from c.loop-m.n c.args.i c.free-free.result c.loop-m.m = c.loop-m.invariant.2 c.args.t c.requires.0 c.requires.1 in it).row.indexed in let a = x.room in let b = x.few in omega arith
+pub returns-in_err-n : goal.returns-in_err-n
+returns-in_err-n c =
+    let x = c.loop-mask.invariant.3 c.args.t c.requires.0 c.requires.1 in
+    let step = (c.in-Some.ensures {u = tt}).steps in
+    let y = rw (x.ticks _) at c.in_err-n.ensures in
+    rw c.from_residual.ensures (row_crowded c.requires.1 (rw step.here at x.row) x.is step.small y)
 
-pub shape_of-work-in-Full : goal.shape_of-work-in-Full
-shape_of-work-in-Full c = c.try_mask-a.auto.work ∙ (let it : RowBy c.args.t c.args.ticker c.prepare-state.result c.args.k c.args.work.now c.loop-m.work c.loop-m.heads c.args.from c.loop-m.n c.args.i c.free-free.result c.loop-m.m = c.loop-m.invariant.2 c.args.t c.requires.0 c.requires.1 in it).row.kept.len
-
-pub shape_of-heads-in-Full : goal.shape_of-heads-in-Full
-shape_of-heads-in-Full c = c.try_mask-a.auto.heads ∙ c.loop-m.invariant.1
-
-pub returns-in-Full : goal.returns-in-Full
-returns-in-Full c =
-    let x = (let it : RowBy c.args.t c.args.ticker c.prepare-state.result c.args.k c.args.work.now c.loop-m.work c.loop-m.heads c.args.from c.loop-m.n c.args.i c.free-free.result c.loop-m.m = c.loop-m.invariant.2 c.args.t c.requires.0 c.requires.1 in it) in
-    let y = rw c.in-Full.is at (rw (x.ticks _) at c.try_mask-a.ensures) in
-    row_crowded c.requires.1 x.row x.is c.loop-m-test.true y
-
-pub loop-m-smaller : goal.loop-m-smaller
-loop-m-smaller c =
-    let x = (let it : RowBy c.args.t c.args.ticker c.prepare-state.result c.args.k c.args.work.now c.loop-m.work c.loop-m.heads c.args.from c.loop-m.n c.args.i c.free-free.result c.loop-m.m = c.loop-m.invariant.2 c.args.t c.requires.0 c.requires.1 in it) in
-    let m = x.row.most in
-    rw c.follow-m.ensures (omega (arith, row_falls c.requires.1 x.row x.is c.loop-m-test.true))
-
-pub loop-m-preserved : goal.loop-m-preserved
-loop-m-preserved c =
-    let b = c.loop-m-test.true in
-    let call = c.try_mask-a in
-    elim c.match-a.branch [
-      | in-Nothing w ↦ (
-        omega (arith, w.n-is),
-        call.auto.heads ∙ c.loop-m.invariant.1,
-        λ t e ready.
-            let x = c.loop-m.invariant.2 t e ready in
-            let y = rw w.in-Nothing.is at (rw (x.ticks _) at call.ensures) in
-            record { is = x.is; ticks = x.ticks; row = rw (c.follow-m.ensures, w.n-is) (row_known ready x.row x.is b y) },
-      )
-      | in-New w ↦ (
-        omega (arith, w.n-is),
-        call.auto.heads ∙ c.loop-m.invariant.1,
-        λ t e ready.
-            let x = c.loop-m.invariant.2 t e ready in
-            let y = rw w.in-New.is at (rw (x.ticks _) at call.ensures) in
-            record { is = x.is; ticks = x.ticks; row = rw (c.follow-m.ensures, w.n-is) (row_added ready x.row x.is b y) },
-      )
-    ]
-
-pub shape_of-work : goal.shape_of-work
-shape_of-work c = (let it : RowBy c.args.t c.args.ticker c.prepare-state.result c.args.k c.args.work.now c.loop-m.work c.loop-m.heads c.args.from c.loop-m.n c.args.i c.free-free.result c.loop-m.m = c.loop-m.invariant.2 c.args.t c.requires.0 c.requires.1 in it).row.kept.len
+pub loop-mask-preserved : goal.loop-mask-preserved
+loop-mask-preserved c =
+    let next = c.in-Some.ensures {u = tt} in
+    let step = next.steps in (
+      next.goes.keeps,
+      tt,
+      c.try_mask.auto.heads ∙ c.loop-mask.invariant.2,
+      λ t e ready.
+          let x = c.loop-mask.invariant.3 t e ready in
+          let y = rw (x.ticks _) at c.in_ok-n.ensures in
+          record { is = step.free ∙ x.is; ticks = x.ticks; row = rw (step.free, step.next) (row_stored ready (rw step.here at x.row) x.is step.small y) },
+    )
 
 pub shape_of-heads : goal.shape_of-heads
-shape_of-heads c = c.loop-m.invariant.1
+shape_of-heads c = c.loop-mask.invariant.2
 
 pub returns : goal.returns
-returns c = row_end c.requires.1 (let it : RowBy c.args.t c.args.ticker c.prepare-state.result c.args.k c.args.work.now c.loop-m.work c.loop-m.heads c.args.from c.loop-m.n c.args.i c.free-free.result c.loop-m.m = c.loop-m.invariant.2 c.args.t c.requires.0 c.requires.1 in it).row (let it : RowBy c.args.t c.args.ticker c.prepare-state.result c.args.k c.args.work.now c.loop-m.work c.loop-m.heads c.args.from c.loop-m.n c.args.i c.free-free.result c.loop-m.m = c.loop-m.invariant.2 c.args.t c.requires.0 c.requires.1 in it).is c.loop-m-test.false
+returns c =
+    let x = c.loop-mask.invariant.3 c.args.t c.requires.0 c.requires.1 in
+    let end = c.in-None.ensures {u = tt} in
+    row_end c.requires.1 x.row x.is (omega (arith, end.steps))

@@ -1,19 +1,14 @@
--- By computation. Assumes nothing.
-use lib.ListN.{length-set}
+-- By what the four bytes are. Assumes nothing.
+use mathlib.Core.Path.{sym, ap, ◌∙◌}
+use mathlib.Core.List.{List, ◌++◌}
+use Prim.Native.Nat.{ℕ}
+use lib.ListN.{drop}
+use lib.Seq.{sets-eq}
 use Rattle.slots.specs.Layout.{four_bytes}
-use native.Mathlib.Omega.{arith}
-use borrow.Author.Rules.{rules}
 use Rattle.slots.proofs.write.put_parent.Goals as goal
-
-pub bounds-part-1 : goal.bounds-part-1
-bounds-part-1 c = simp length-set (omega arith)
-
-pub bounds-part-2 : goal.bounds-part-2
-bounds-part-2 c = simp length-set (omega arith)
-
-pub bounds-part-3 : goal.bounds-part-3
-bounds-part-3 c = simp length-set (omega arith)
 
 pub returns : goal.returns
 unfolding four_bytes
-returns c = search rules
+returns c =
+    let p = c.args.part.now in
+    ap (λ (l : List ℕ). l ++ drop 4 p) (c.copy_from_slice.ensures.after ∙ c.to_le_bytes.ensures) ∙ sym (sets-eq (four_bytes c.args.x) p 0 c.requires)

@@ -1,4 +1,4 @@
-use mathlib.Core.Path.{◌≡◌, refl, sym, ◌∙◌}
+use mathlib.Core.Path.{◌≡◌, sym, ◌∙◌}
 use lib.ListN.{length-set}
 use Rattle.tasks.proofs.InWords.{work_word, gap_word}
 use Rattle.states.specs.Bytes.{state_bytes}
@@ -6,24 +6,12 @@ use Rattle.slots.proofs.WriteLaws.{put_turn}
 use native.Mathlib.Omega.{arith}
 use Rattle.slots.proofs.write.put_state.Goals as goal
 
-pub loop-k-init : goal.loop-k-init
-loop-k-init c = (omega arith, refl, refl)
-
-pub bounds-part-k : goal.bounds-part-k
-bounds-part-k c = omega arith
-
-pub bounds-part-k-in-loop-k : goal.bounds-part-k-in-loop-k
-bounds-part-k-in-loop-k c = simp length-set (omega arith)
-
 pub loop-k-preserved : goal.loop-k-preserved
 loop-k-preserved c =
     let v = c.args.v in
     let k = c.loop-k.k in
-    (omega arith, rw (c.work_in.ensures ∙ sym (work_word v k (omega arith)), c.gap_in.ensures ∙ sym (gap_word v k (omega arith))) (put_turn _ _ _ _ _ (omega arith) c.loop-k.invariant.1), simp length-set (omega arith))
-
-pub shape_of-part : goal.shape_of-part
-shape_of-part c = c.loop-k.invariant.2
+    (rw (c.work_in.ensures ∙ sym (work_word v k (omega arith)), c.gap_in.ensures ∙ sym (gap_word v k (omega arith))) (put_turn _ _ _ _ _ (omega arith) c.loop-k.invariant.0), simp length-set (omega arith))
 
 pub returns : goal.returns
 unfolding state_bytes
-returns c = let left = c.loop-k-test.false in let e : c.loop-k.k ≡ 8 = omega arith in rw e at c.loop-k.invariant.1
+returns c = let left = c.loop-k-test.false in let e : c.loop-k.k ≡ 8 = omega arith in rw e at c.loop-k.invariant.0
