@@ -5,7 +5,7 @@ ghost use Rattle.std.specs.Prelude.{◌≡◌, ◌+◌, ◌*◌, ◌<◌, ◌≤
 ghost use Rattle.closed.specs.Keeping.{HeldIs, NamedIs, ProbeIs};
 
 use crate::file::scan;
-use states::{Key, key_in, mix};
+use states::{Key, key_in, mix, same_keys};
 
 // The first of the 256 cells in which a key may stand.
 fn first_cell(key: Key, length: usize) -> usize
@@ -29,7 +29,7 @@ fn names(file: &[u8], n: usize, cell: u32, key: Key) -> bool
     ensures { NamedIs file.now n key result }
 {
     let i = (cell % 16777216) as usize;
-    i < n && key_in(file, i) == key
+    i < n && same_keys(key_in(file, i), key)
 }
 
 // What a walk along the cells of a key ends with.

@@ -2,7 +2,7 @@
 ghost use Rattle.std.specs.Prelude.{◌≡◌, ◌+◌, ◌*◌, ◌<◌, ◌≤◌, length, get_or};
 ghost use Rattle.closed.specs.Keeping.{HeldIs};
 
-use states::{Key, key_in};
+use states::{Key, key_in, same_keys};
 
 // How many ticks task k is from its next release in state i.
 pub(crate) fn gap_at(file: &[u8], i: usize, k: usize) -> u8
@@ -17,5 +17,5 @@ pub(crate) fn scan(file: &[u8], n: usize, key: Key) -> bool
     requires { 16 * n ≤ length file.now }
     ensures { HeldIs file.now n key result }
 {
-    (0..n).any(|i| key_in(file, i) == key)
+    (0..n).any(|i| same_keys(key_in(file, i), key))
 }

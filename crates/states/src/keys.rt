@@ -4,7 +4,7 @@ ghost use Rattle.tasks.specs.Words.{state_of};
 ghost use Rattle.states.specs.Bytes.{four};
 ghost use Rattle.states.specs.Keys.{key_of, same_keys, mixed};
 
-#[derive(Clone, Copy, Debug, PartialEq, Eq)]
+#[derive(Clone, Copy)]
 pub struct Key {
     pub a: u32,
     pub b: u32,

@@ -1,8 +1,8 @@
 -- Each state's key is compared. Assumes nothing.
-use mathlib.Core.Path.{◌≡◌, sym, ◌∙◌}
+use mathlib.Core.Path.{◌≡◌}
 use Rattle.std.proofs.Common.{rules}
 use Rattle.states.specs.Keys.{key_in}
-use Rattle.states.proofs.KeyLaws.{keys_eq, keys_same, keys_differ}
+use Rattle.states.proofs.KeyLaws.{keys_same, keys_differ}
 use Rattle.closed.proofs.FileLaws.{held_is}
 use Rattle.closed.proofs.Ranges.{any_below}
 use Rattle.closed.proofs.file.scan.Goals as goal
@@ -13,5 +13,5 @@ returns c =
     let key = c.args.key in
     held_is file c.args.n key c.any.result
     (any_below c.args.n {Yes = λ i. key_in file i ≡ key} {No = λ i. key_in file i ≡ key → ⊥} c.any.result c.any.ensures.ran
-    (λ x q k. keys_same _ _ (sym (keys_eq (key_in file x) key) ∙ search rules))
-    (λ x q k. (search rules, keys_differ _ _ (sym (keys_eq (key_in file x) key) ∙ search rules))))
+    (λ x q k. keys_same _ _ (search rules))
+    (λ x q k. (search rules, keys_differ _ _ (search rules))))
