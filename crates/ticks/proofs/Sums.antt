@@ -1,5 +1,5 @@
 -- One more tick of the sum, and the room that its bytes have. Assumes nothing.
-use Rattle.std.proofs.Common.{◌≡◌, ℕ, ◌+◌, ◌*◌, ◌/◌, ◌%◌, ◌^◌, ◌<◌, ◌≤◌, min, Bool, true, false, ltb, List, length, get_or, refl, sym, ◌∙◌, add-one, arith, ltb-false, ltb-true, le-ltb}
+use Rattle.std.proofs.Common.{◌≡◌, ℕ, ◌+◌, ◌*◌, ◌/◌, ◌%◌, ◌^◌, ◌<◌, ◌≤◌, min, Bool, true, false, ltb, List, length, get_or, refl, sym, ap, ◌∙◌, add-one, arith, ltb-false, ltb-true, le-ltb}
 use Rattle.std.proofs.Math.Nat.{mod-eq_of_lt}
 use mir.Val.{bool_byte}
 use Rattle.lists.specs.Lists.{pick}
@@ -35,7 +35,10 @@ module _ (states masks : List ℕ) where
     sum_turn k e h = rw (add-one, e, h)
 
     pub sum_first : {f : ℕ} → f ≡ figure t (tick_of t (state_in states 0) (get_or masks 0 0)) → f < 2 ^ 64 → f ≡ sum t states masks 1
-    sum_first {f} e h = sym (mod-eq_of_lt h) ∙ sum_turn 0 sum_start e
+    sum_first {f} e h =
+        let z : 0 + f ≡ f = omega arith in
+        let q : (0 + f) % 2 ^ 64 ≡ sum t states masks 1 = sum_turn 0 sum_start e in
+        sym (mod-eq_of_lt h) ∙ ap (λ x. x % 2 ^ 64) (sym z) ∙ q
 
     pub sum_end :
         (table : List ℕ) {x n : ℕ} (k : ℕ) → x ≡ sum t states masks k → k ≤ n → n ≤ k → n ≡ pairs states masks → t ≡ table_of table → 27 ≤ length table
