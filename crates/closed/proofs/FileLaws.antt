@@ -4,7 +4,7 @@ use mathlib.Core.Path.{◌≡◌, refl, sym}
 use mathlib.Core.Bool.{Bool, true, false}
 use mathlib.Core.List.{List}
 use native.Mathlib.Omega.{arith}
-use borrow.Author.Count.{below_more}
+use Rattle.std.specs.Bool.{MatchBool}
 use Rattle.tasks.specs.State.{start}
 use Rattle.lists.proofs.Fill.{eight_at}
 use Rattle.states.specs.Keys.{same_keys, key_in}
@@ -19,18 +19,10 @@ pub named : (file : List ℕ) {n : ℕ} (i : ℕ) (key : Key) (b : Bool) → i <
 named file i key true h e = record { place = i; below = h; same = keys_same (key_in file i) key (sym e) }
 named file i key false h e = tt
 
--- none of the first i states has the key
-pub record Scanned (file : List ℕ) (key : Key) (i : ℕ) : Type 0 where
-  pub none : (j : ℕ) → j < i → key_in file j ≡ key → ⊥
-
-pub scanned_start : {file : List ℕ} {key : Key} → Scanned file key 0
-scanned_start = record { none = λ j h e. omega arith }
-
-pub scanned_next : {file : List ℕ} {key : Key} {i : ℕ} → Scanned file key i → same_keys (key_in file i) key ≡ false → Scanned file key (i + 1)
-scanned_next {file} {key} {i} x e = record { none = below_more (λ j. key_in file j ≡ key → ⊥) i x.none (keys_differ (key_in file i) key e) }
-
-pub scanned_end : {file : List ℕ} {key : Key} {n : ℕ} → Scanned file key n → HeldIs file n key false
-scanned_end x h = x.none h.place h.below h.same
+-- one of the first n states has the key, or none does
+pub held_is : (file : List ℕ) (n : ℕ) (key : Key) (r : Bool) → MatchBool r ((k : ℕ) × (k < n) × (key_in file k ≡ key)) ((k : ℕ) → k < n → key_in file k ≡ key → ⊥) → HeldIs file n key r
+held_is file n key true h = record { place = h.0; below = h.1; same = h.2 }
+held_is file n key false h = λ x. h x.place x.below x.same
 
 -- the start state has bytes
 pub start_bytes : Bytes start

@@ -7,3 +7,4 @@ pub mod PendingLaws
 pub mod RowLaws
 pub mod AnswerLaws
 pub mod SoundLaws
+pub mod Ranges

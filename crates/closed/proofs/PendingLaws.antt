@@ -1,13 +1,14 @@
 -- Keys that wait for their lookup, and what the rows of a pass know while they wait. Assumes nothing.
 use Prim.Native.Nat.{ℕ, ◌+◌, ◌*◌, ◌<◌, ◌≤◌}
 use mathlib.Core.Path.{◌≡◌, refl, ◌∙◌}
-use mathlib.Core.Bool.{Bool, true}
+use mathlib.Core.Bool.{Bool, true, false}
 use mathlib.Core.List.{List}
 use native.Mathlib.Omega.{arith}
 use native.Mathlib.Decide.{dec_lt}
 use borrow.Author.Count.{below_more}
 use lib.ListN.{length, get_or, set, length-set}
 use lib.Seq.{get_or-set_same, get_or-set_other}
+use Rattle.std.specs.Bool.{MatchBool}
 use Rattle.tasks.specs.Table.{table_fault}
 use Rattle.tasks.specs.Tick.{after}
 use Rattle.tasks.specs.declared.state.State.{State}
@@ -18,7 +19,7 @@ use Rattle.states.specs.declared.keys.Key.{Key}
 use Rattle.states.proofs.KeyLaws.{Bytes}
 use Rattle.states.specs.Bytes.{state_in}
 use Rattle.closed.specs.Closed.{states_in, Closed}
-use Rattle.closed.specs.Keeping.{key_at, class_of, Due, RowOf, Inside, AllHeld, Grown, Added, AfterWaits, From, RowWaits}
+use Rattle.closed.specs.Keeping.{key_at, class_of, Due, RowOf, Inside, InsideIs, AllHeld, AllHeldIs, Grown, Added, AfterWaits, From, RowWaits}
 use Rattle.closed.specs.declared.passes.Split.{Split}
 use Rattle.closed.specs.declared.passes.Pass.{Pass}
 use Rattle.states.proofs.ColumnLaws.{held, held_key}
@@ -112,12 +113,12 @@ pub held_before :
     {file p q : List ℕ} {n count next : ℕ} → Grown p count q next → AllHeld file n q next → AllHeld file n p count
 held_before x y = record { each = λ k h. rw (x.first k h) at (y.each k (let a = x.up in omega arith)) }
 
-pub held_none : {file p : List ℕ} {n : ℕ} → AllHeld file n p 0
-held_none = record { each = λ k h. absurd (omega arith) }
-
-pub held_next :
-    {file p : List ℕ} {n k : ℕ} → AllHeld file n p k → Holds (key_in file) n (key_at p k) → AllHeld file n p (k + 1)
-held_next {file} {p} {n} {k} x h = record { each = below_more (λ j. Holds (key_in file) n (key_at p j)) k x.each h }
+-- each key that waits is held, or one is not
+pub all_held_is :
+    (file : List ℕ) (n : ℕ) (p : List ℕ) (count : ℕ) (r : Bool)
+    → MatchBool r ((k : ℕ) → k < count → Holds (key_in file) n (key_at p k)) ((k : ℕ) × (k < count) × (Holds (key_in file) n (key_at p k) → ⊥)) → AllHeldIs file n p count r
+all_held_is file n p count true h = record { each = h }
+all_held_is file n p count false h = λ all. h.2 (all.each h.0 h.1)
 
 -- ---- the state after a mask
 
@@ -166,9 +167,6 @@ module _ (t : Table) (file : List ℕ) (n : ℕ) where
         go k h (yes l) = rw (y.grown.first k l) (x.from k l)
         go k h (no l) = y.from k (omega arith) h
 
-    pub waiting_end : {i : ℕ} {p : List ℕ} {count : ℕ} → Waiting (RowsTo t file split pass i) p count → count ≡ 0 → n ≡ states_in file → n ≤ i → Inside t file (Due t file split pass)
-    waiting_end x z e l = rows_end t file split pass (x.inside (record { each = λ k h. absurd (omega arith) })) e l
-
   -- in a closed file every key that waits is held
   closed_held : table_fault t ≡ 0 → n ≡ states_in file → Closed t file → (key : Key) → From t file key → Holds (key_in file) n key
   closed_held valid e c key x =
@@ -177,3 +175,10 @@ module _ (t : Table) (file : List ℕ) (n : ℕ) where
   pub waiting_open :
       {D : ℕ → ℕ → Type 0} {p : List ℕ} {count : ℕ} → table_fault t ≡ 0 → n ≡ states_in file → Waiting D p count → (AllHeld file n p count → ⊥) → Closed t file → ⊥
   waiting_open {D} {p} valid e x none c = none (record { each = λ k h. closed_held valid e c (key_at p k) (x.from k h) })
+
+  -- every row is passed
+  pub waiting_end :
+      (split : Split) (pass : Pass) {i : ℕ} {p : List ℕ} {count : ℕ} (r : Bool) → table_fault t ≡ 0 → n ≡ states_in file → n ≤ i
+      → Waiting (RowsTo t file split pass i) p count → AllHeldIs file n p count r → InsideIs t file (Due t file split pass) r
+  waiting_end split pass true valid e l x all = rows_end t file split pass (x.inside all) e l
+  waiting_end split pass false valid e l x none = waiting_open valid e x none

@@ -12,6 +12,7 @@ use lib.Dec.{eqb, leb, ltb}
 use lib.ListN.{length, get_or}
 use mir.Syntax.{w8}
 use mir.Val.{Fits}
+use Rattle.std.specs.Bool.{MatchBool}
 use Rattle.lists.specs.Lists.{pick}
 use Rattle.tasks.specs.Table.{table_fault}
 use Rattle.tasks.specs.State.{improper}
@@ -37,7 +38,7 @@ use Rattle.states.proofs.SystemLaws.{step_missed}
 use Rattle.states.proofs.MaskLaws.{Walked, walked_start, walked_next, submask_legal, legal_submask}
 use Rattle.states.specs.Bytes.{state_in}
 use Rattle.closed.specs.Closed.{states_in, Closed}
-use Rattle.closed.specs.Keeping.{class_of, landing, lands, Due, RowOf, SoundState, StateIs, Sound, Ready, key_at, AllHeld, Grown, AfterWaits, From, RowWaits}
+use Rattle.closed.specs.Keeping.{class_of, landing, lands, Due, RowOf, SoundState, StateIs, Sound, SoundIs, Ready, key_at, AllHeld, Grown, AfterWaits, From, RowWaits}
 use Rattle.closed.specs.declared.passes.Split.{Split}
 use Rattle.closed.specs.declared.passes.Pass.{Pass}
 use Rattle.closed.proofs.Theorems.{closed_calm}
@@ -160,22 +161,17 @@ module _ {t : Table} {ticker : Ticker} {file : List ℕ} {split : Split} {pass :
 
 -- ---- sound states
 
-pub record SoundTo (t : Table) (file : List ℕ) (i : ℕ) : Type 0 where
-  pub state : (j : ℕ) → j < i → SoundState t (state_in file j)
-
-pub sound_start : (t : Table) (file : List ℕ) → SoundTo t file 0
-sound_start t file = record { state = λ j h. absurd (omega arith) }
-
-pub sound_next : (t : Table) (file : List ℕ) {i : ℕ} → SoundTo t file i → SoundState t (state_in file i) → SoundTo t file (i + 1)
-sound_next t file {i} x s = record { state = below_more (λ j. SoundState t (state_in file j)) i x.state s }
-
-pub sound_end : (t : Table) (file : List ℕ) {n i : ℕ} → SoundTo t file i → n ≡ states_in file → n ≤ i → Sound t file
-sound_end t file x e l = record { state = λ j h. x.state j (omega arith) }
-
 -- a file with a state that is not sound is not closed
 pub not_sound : (t : Table) (file : List ℕ) {i n : ℕ} → n ≡ states_in file → i < n → (SoundState t (state_in file i) → ⊥) → Closed t file → ⊥
 not_sound t file {i} e h bad x =
     bad (record { proper = x.proper i (omega arith); calm = closed_calm x (record { place = i; below = omega arith; same = refl }) })
+
+-- every state of the file is sound, or one is not
+pub sound_is :
+    (t : Table) (file : List ℕ) {n : ℕ} → n ≡ states_in file → (r : Bool)
+    → MatchBool r ((k : ℕ) → k < n → SoundState t (state_in file k)) ((k : ℕ) × (k < n) × (SoundState t (state_in file k) → ⊥)) → SoundIs t file r
+sound_is t file e true h = record { state = λ j b. h j (omega arith) }
+sound_is t file e false h = not_sound t file e h.1 h.2
 
 -- a state is sound or not, as its full mask misses or not
 pub full_sound :

@@ -29,14 +29,11 @@ fn names(file: &[u8], n: usize, cell: u32, key: Key) -> bool
     ensures { NamedIs file.now n key result }
 {
     let i = (cell % 16777216) as usize;
-    if n <= i {
-        return false;
-    }
-    same_keys(key_in(file, i), key)
+    i < n && same_keys(key_in(file, i), key)
 }
 
 // What a walk along the cells of a key ends with.
-#[derive(Clone, Copy)]
+#[derive(Clone, Copy, Debug, PartialEq, Eq)]
 pub(crate) enum Probed {
     Found,
     Empty(usize),
@@ -49,18 +46,14 @@ fn probe(file: &[u8], cells: &[u32], n: usize, key: Key) -> Probed
 {
     let first = first_cell(key, cells.len());
     let tag = tag_of(key);
-    let mut k: usize = 0;
-    while k < 256 {
-        let cell = cells[first + k];
+    for at in first..first + 256 {
+        let cell = cells[at];
         if cell == 0 {
-            return Probed::Empty(first + k);
+            return Probed::Empty(at);
         }
-        if cell / 16777216 == tag {
-            if names(file, n, cell, key) {
-                return Probed::Found;
-            }
+        if cell / 16777216 == tag && names(file, n, cell, key) {
+            return Probed::Found;
         }
-        k += 1;
     }
     Probed::Crowded
 }
@@ -70,11 +63,9 @@ pub(crate) fn holds(file: &[u8], cells: &[u32], n: usize, key: Key) -> bool
     requires { (16 * n ≤ length file.now) × (256 < length cells.now) }
     ensures { HeldIs file.now n key result }
 {
-    let found = probe(file, cells, n, key);
-    match found {
+    match probe(file, cells, n, key) {
         Probed::Found => true,
-        Probed::Empty(_) => scan(file, n, key),
-        Probed::Crowded => scan(file, n, key),
+        Probed::Empty(_) | Probed::Crowded => scan(file, n, key),
     }
 }
 
@@ -83,25 +74,9 @@ pub(crate) fn put(file: &[u8], cells: &mut [u32], n: usize, key: Key, i: usize)
     requires { (16 * n ≤ length file.now) × (256 < length cells.old) }
     ensures { length cells.new ≡ length cells.old }
 {
-    let found = probe(file, cells, n, key);
-    match found {
-        Probed::Found => {}
-        Probed::Empty(at) => {
-            if i < 16777216 {
-                cells[at] = tag_of(key) * 16777216 + (i as u32);
-            }
+    if let Probed::Empty(at) = probe(file, cells, n, key) {
+        if i < 16777216 {
+            cells[at] = tag_of(key) * 16777216 + (i as u32);
         }
-        Probed::Crowded => {}
-    }
-}
-
-// Empties the cells.
-pub(crate) fn clear(cells: &mut [u32])
-    ensures { length cells.new ≡ length cells.old }
-{
-    let mut k: usize = 0;
-    while k < cells.len() {
-        cells[k] = 0;
-        k += 1;
     }
 }

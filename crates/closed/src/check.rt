@@ -1,5 +1,5 @@
 // The public calls: whether a file of states is closed, for a table and for a sheet.
-ghost use Rattle.std.specs.Prelude.{◌≡◌, ◌<◌, length};
+ghost use Rattle.std.specs.Prelude.{◌≡◌, ◌<◌, ◌≤◌, length};
 ghost use Rattle.tasks.specs.Table.{table_fault};
 ghost use Rattle.tasks.specs.Ticker.{ticker_of};
 ghost use Rattle.closed.specs.Closed.{file_refusal, closed_answer, Judged, TableJudged, SheetJudged};
@@ -12,7 +12,7 @@ use states::{key_of, words_in};
 use tasks::{Reading, Table, Ticker};
 
 // The answer to a file: accepted, No, or a refusal's number.
-#[derive(Clone, Copy)]
+#[derive(Clone, Copy, Debug, PartialEq, Eq)]
 pub enum ClosedAnswer {
     Accepted,
     No,
@@ -24,14 +24,7 @@ fn all_sound(t: Table, ticker: Ticker, file: &[u8], n: usize) -> bool
     requires { Given t file.now n × (ticker ≡ ticker_of t) }
     ensures { SoundIs t file.now result }
 {
-    let mut i: usize = 0;
-    while i < n {
-        if !is_sound(t, ticker, words_in(file, i)) {
-            return false;
-        }
-        i += 1;
-    }
-    true
+    (0..n).all(|i| is_sound(t, ticker, words_in(file, i)))
 }
 
 // Whether the file is closed, with the cells given.
@@ -50,30 +43,12 @@ fn closed_with(t: Table, file: &[u8], n: usize, cells: &mut [u32]) -> bool
     all_inside(t, ticker, file, cells, n, split_of(t))
 }
 
-// Up to 12,288 states: 65 KB of cells.
-fn closed_small(t: Table, file: &[u8], n: usize) -> bool
-    requires { Given t file.now n }
+// Whether the file is closed, with so many cells.
+fn closed_with_cells<const CELLS: usize>(t: Table, file: &[u8], n: usize) -> bool
+    requires { Given t file.now n × (256 < CELLS) × (CELLS ≤ 262400) }
     ensures { ClosedIs t file.now result }
 {
-    let mut cells = [0u32; 16640];
-    closed_with(t, file, n, &mut cells)
-}
-
-// Up to 49,152 states: 257 KB.
-fn closed_medium(t: Table, file: &[u8], n: usize) -> bool
-    requires { Given t file.now n }
-    ensures { ClosedIs t file.now result }
-{
-    let mut cells = [0u32; 65792];
-    closed_with(t, file, n, &mut cells)
-}
-
-// More: 1 MB.
-fn closed_large(t: Table, file: &[u8], n: usize) -> bool
-    requires { Given t file.now n }
-    ensures { ClosedIs t file.now result }
-{
-    let mut cells = [0u32; 262400];
+    let mut cells = [0u32; CELLS];
     closed_with(t, file, n, &mut cells)
 }
 
@@ -84,12 +59,12 @@ fn closed_sized(t: Table, file: &[u8], n: usize) -> bool
     ensures { ClosedIs t file.now result }
 {
     if n <= 12288 {
-        return closed_small(t, file, n);
+        closed_with_cells::<16640>(t, file, n)
+    } else if n <= 49152 {
+        closed_with_cells::<65792>(t, file, n)
+    } else {
+        closed_with_cells::<262400>(t, file, n)
     }
-    if n <= 49152 {
-        return closed_medium(t, file, n);
-    }
-    closed_large(t, file, n)
 }
 
 // The answer for a valid table.

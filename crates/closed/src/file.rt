@@ -17,12 +17,5 @@ pub(crate) fn scan(file: &[u8], n: usize, key: Key) -> bool
     requires { 16 * n ≤ length file.now }
     ensures { HeldIs file.now n key result }
 {
-    let mut i: usize = 0;
-    while i < n {
-        if same_keys(key_in(file, i), key) {
-            return true;
-        }
-        i += 1;
-    }
-    false
+    (0..n).any(|i| same_keys(key_in(file, i), key))
 }

@@ -11,14 +11,14 @@ ghost use Rattle.tasks.specs.Words.{state_of};
 ghost use Rattle.states.specs.Bytes.{state_in};
 ghost use Rattle.closed.specs.Keeping.{class_of, landing, Due, RowOf, Between, Every, InsideIs, Given, Ready, AfterWaits, RowWaits};
 
-use crate::cells::{clear, put};
+use crate::cells::put;
 use crate::file::gap_at;
 use crate::pending::{all_held, put_key};
 use states::{Key, follow, key_in, key_of, mix, words_in};
 use tasks::{Prepared, Table, Ticker};
 
 // The task by which the pairs are split, the most that it is from its next release after a tick, and its bit in a mask.
-#[derive(Clone, Copy)]
+#[derive(Clone, Copy, Debug, PartialEq, Eq)]
 pub(crate) struct Split {
     task: usize,
     top: usize,
@@ -26,7 +26,7 @@ pub(crate) struct Split {
 }
 
 // The pairs of a pass: how far the task is from its next release, from low to high - 1, and the class of the state, of so many.
-#[derive(Clone, Copy)]
+#[derive(Clone, Copy, Debug, PartialEq, Eq)]
 pub(crate) struct Pass {
     low: usize,
     high: usize,
@@ -42,34 +42,19 @@ fn wider(t: Table, j: usize, i: usize) -> usize
     if t.gap[j] < t.gap[i] { i } else { j }
 }
 
-// One less, and 0 for 0.
-fn one_less(x: u8) -> usize
-    ensures { (result ≡ x - 1) × (result < 256) }
-{
-    if 0 < x { (x as usize) - 1 } else { 0 }
-}
-
 // The task with the greatest least gap: by it the file's states fall into the most parts.
 pub(crate) fn split_of(t: Table) -> Split
     ensures { (result.task < 8) × (result.top < 256) }
 {
     let mut task: usize = 0;
-    let mut i: usize = 0;
-    while i < 8 {
+    for i in 0..8 {
         task = wider(t, task, i);
-        i += 1;
     }
     Split {
         task,
-        top: one_less(t.gap[task]),
+        top: t.gap[task].saturating_sub(1) as usize,
         bit: 1 << task,
     }
-}
-
-fn lesser(x: usize, y: usize) -> usize
-    ensures { result ≡ min x y }
-{
-    if x < y { x } else { y }
 }
 
 // How far the task is from its next release after a tick that releases it or not, at most top.
@@ -79,14 +64,14 @@ fn landing(top: usize, gap: u8, released: bool) -> usize
     if gap == 0 {
         return if released { top } else { 0 };
     }
-    lesser(one_less(gap), top)
+    ((gap - 1) as usize).min(top)
 }
 
 // Whether a distance is from low to high - 1.
 fn between(low: usize, high: usize, at: usize) -> bool
     ensures { result ≡ (leb low at && ltb at high) }
 {
-    (low <= at) & (at < high)
+    (low..high).contains(&at)
 }
 
 // How far the task is from its next release in state i, at most top.
@@ -94,7 +79,7 @@ fn distance(file: &[u8], split: Split, i: usize) -> usize
     requires { (16 * i + 16 ≤ length file.now) × (split.task < 8) }
     ensures { result ≡ min (get_or file.now (16 * i + 2 * split.task + 1) 0) split.top }
 {
-    lesser(gap_at(file, i, split.task) as usize, split.top)
+    (gap_at(file, i, split.task) as usize).min(split.top)
 }
 
 // The class of a key, of so many. One class needs no hash.
@@ -191,18 +176,16 @@ fn rows_inside(
 {
     let mut pending = [0u32; 1280];
     let mut count: usize = 0;
-    let mut row: usize = 0;
-    while row < n {
+    for row in 0..n {
         count = row_pending(t, ticker, file, &mut pending, count, n, split, pass, row);
-        row += 1;
-        if (64 <= count) | (row == n) {
+        if 64 <= count {
             if !all_held(file, cells, n, &pending, count) {
                 return false;
             }
             count = 0;
         }
     }
-    true
+    all_held(file, cells, n, &pending, count)
 }
 
 // Puts state i into the cells, where the pass may look it up.
@@ -223,18 +206,10 @@ fn index_pass(file: &[u8], cells: &mut [u32], n: usize, split: Split, pass: Pass
     requires { (16 * n ≤ length file.now) × (256 < length cells.old) × (0 < pass.classes) × (split.task < 8) }
     ensures { length cells.new ≡ length cells.old }
 {
-    clear(cells);
-    let mut i: usize = 0;
-    while i < n {
+    cells.fill(0);
+    for i in 0..n {
         put_due(file, cells, n, split, pass, i);
-        i += 1;
     }
-}
-
-fn one_if(b: bool) -> usize
-    ensures { result ≤ 1 }
-{
-    if b { 1 } else { 0 }
 }
 
 // How many of the file's states are so far from the task's next release.
@@ -243,10 +218,8 @@ fn count_between(file: &[u8], n: usize, split: Split, low: usize, high: usize) -
     ensures { result ≤ n }
 {
     let mut count: usize = 0;
-    let mut i: usize = 0;
-    while i < n {
-        count += one_if(between(low, high, distance(file, split, i)));
-        i += 1;
+    for i in 0..n {
+        count += between(low, high, distance(file, split, i)) as usize;
     }
     count
 }
@@ -266,8 +239,7 @@ fn band_inside(
     ensures { (length cells.new ≡ length cells.old) × InsideIs t file.now (Between file.now split low high) result }
 {
     let classes = count_between(file, n, split, low, high) / 229376 + 1;
-    let mut class: usize = 0;
-    while class < classes {
+    for class in 0..classes {
         let pass = Pass {
             low,
             high,
@@ -278,7 +250,6 @@ fn band_inside(
         if !rows_inside(t, ticker, file, cells, n, split, pass) {
             return false;
         }
-        class += 1;
     }
     true
 }

@@ -36,12 +36,5 @@ pub(crate) fn all_held(file: &[u8], cells: &[u32], n: usize, pending: &[u32], co
     requires { (16 * n ≤ length file.now) × (256 < length cells.now) × (4 * count ≤ length pending.now) }
     ensures { AllHeldIs file.now n pending.now count result }
 {
-    let mut k: usize = 0;
-    while k < count {
-        if !holds(file, cells, n, key_at(pending, k)) {
-            return false;
-        }
-        k += 1;
-    }
-    true
+    (0..count).all(|k| holds(file, cells, n, key_at(pending, k)))
 }

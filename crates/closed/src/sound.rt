@@ -15,45 +15,24 @@ use tasks::{Table, Ticker, gap_in, misses, tight, work_in};
 fn count_work_above(t: Table, v: [u16; 8]) -> u8
     ensures { result ≡ count 8 (work_above t (state_of v)) }
 {
-    let mut n: u8 = 0;
-    let mut i: usize = 0;
-    while i < 8 {
-        let c = work_in(v[i]);
-        let work = t.work[i];
-        n += (work < c) as u8;
-        i += 1;
-    }
-    n
+    lists::count_places(|i| t.work[i] < work_in(v[i]))
 }
 
 // How many have p above P.
 fn count_gap_above(t: Table, v: [u16; 8]) -> u8
     ensures { result ≡ count 8 (gap_above t (state_of v)) }
 {
-    let mut n: u8 = 0;
-    let mut i: usize = 0;
-    while i < 8 {
-        let p = gap_in(v[i]);
-        let gap = t.gap[i];
-        n += (gap < p) as u8;
-        i += 1;
-    }
-    n
+    lists::count_places(|i| t.gap[i] < gap_in(v[i]))
 }
 
 // How many jobs of the state in the words are started.
 fn count_started(t: Table, v: [u16; 8]) -> u8
     ensures { result ≡ count 8 (started t (state_of v)) }
 {
-    let mut n: u8 = 0;
-    let mut i: usize = 0;
-    while i < 8 {
+    lists::count_places(|i| {
         let c = work_in(v[i]);
-        let work = t.work[i];
-        n += ((0 < c) & (c < work)) as u8;
-        i += 1;
-    }
-    n
+        (0 < c) & (c < t.work[i])
+    })
 }
 
 // Whether some task of the state in the words has c above C or p above P, or more than m jobs keep a processor. A state of a

@@ -41,14 +41,12 @@ fn masks_fit(masks: &[u8], room: usize) -> bool
     ensures { result ≡ leb (length (mask_lines masks.now)) room }
 {
     let mut left = room;
-    let mut i: usize = 0;
-    while i < masks.len() {
-        let n = decimal_len(wide(masks[i])) + 1;
+    for mask in masks {
+        let n = decimal_len(wide(*mask)) + 1;
         if left < n {
             return false;
         }
         left -= n;
-        i += 1;
     }
     true
 }
@@ -59,10 +57,8 @@ fn put_masks(out: &mut [u8], from: usize, masks: &[u8]) -> usize
     ensures { (result ≡ from + length (mask_lines masks.now)) × (out.new ≡ sets out.old from (mask_lines masks.now)) }
 {
     let mut at = from;
-    let mut i: usize = 0;
-    while i < masks.len() {
-        at = put_line(out, at, b"", wide(masks[i]));
-        i += 1;
+    for mask in masks {
+        at = put_line(out, at, b"", wide(*mask));
     }
     at
 }
@@ -72,10 +68,8 @@ fn mask_count(a: SearchAnswer, n: usize) -> usize
     ensures { (result ≤ n) × ((trace : List ℕ) → length trace ≡ n → take result trace ≡ masks_given a trace) }
 {
     match a {
-        SearchAnswer::Unsafe(l, _) => { if l < n { l } else { n } }
-        SearchAnswer::Safe(_) => 0,
-        SearchAnswer::NoRoom(_) => 0,
-        SearchAnswer::Refused(_) => 0,
+        SearchAnswer::Unsafe(l, _) => l.min(n),
+        SearchAnswer::Safe(_) | SearchAnswer::NoRoom(_) | SearchAnswer::Refused(_) => 0,
     }
 }
 

@@ -5,6 +5,7 @@ ghost use Rattle.lists.specs.Lists.{eight};
 ghost use Rattle.tasks.specs.Sheet.{write_out};
 ghost use Rattle.ronchhek.specs.Tables.{table_bytes, table_from, read_number, read_space, sheet_number, write_number, write_space};
 
+use std::array;
 use tasks::{Reading, Table, Writing};
 
 // 2^48: kind 1.
@@ -15,13 +16,7 @@ fn column(b: &[u8], at: usize) -> [u8; 8]
     requires { at + 22 ≤ length b.now }
     ensures { result ≡ eight (λ i. get_or b.now (at + 3 * i) 0) }
 {
-    let mut a = [0u8; 8];
-    let mut i: usize = 0;
-    while i < 8 {
-        a[i] = b[at + 3 * i];
-        i += 1;
-    }
-    a
+    array::from_fn(|i| b[at + 3 * i])
 }
 
 // The table in 27 bytes.
@@ -47,13 +42,11 @@ fn put_table(out: &mut [u8], t: Table)
     out[0] = t.policy;
     out[1] = t.m;
     out[2] = t.n;
-    let mut i: usize = 0;
-    while i < 8 {
+    for i in 0..8 {
         let at = 3 + 3 * i;
         out[at] = t.work[i];
         out[at + 1] = t.deadline[i];
         out[at + 2] = t.gap[i];
-        i += 1;
     }
 }
 

@@ -6,19 +6,14 @@ ghost use Rattle.ticks.specs.Ticks.{bytes_from, table_of, state_in, word, figure
 ghost use Rattle.tasks.specs.Ticker.{prepared_by, ticked_by};
 ghost use Rattle.tasks.specs.Words.{words_of, state_of};
 
-use tasks::{State, Table, Ticker, wide};
+use std::array;
+use tasks::{State, Table, Ticker};
 
 // Eight bytes as one number, low byte first.
 fn word(a: [u8; 8]) -> u64
     ensures { result ≡ word a }
 {
-    let low = wide(a[0]) + wide(a[1]) * 0x100 + wide(a[2]) * 0x10000 + wide(a[3]) * 0x1000000;
-    let all = low
-        + wide(a[4]) * 0x100000000
-        + wide(a[5]) * 0x10000000000
-        + wide(a[6]) * 0x1000000000000
-        + wide(a[7]) * 0x100000000000000;
-    all as u64
+    u64::from_le_bytes(a)
 }
 
 // Eight bytes from a place on.
@@ -26,13 +21,7 @@ fn bytes_from(b: &[u8], at: usize) -> [u8; 8]
     requires { at + 8 ≤ length b.now }
     ensures { result ≡ bytes_from b.now at }
 {
-    let mut a = [0u8; 8];
-    let mut i: usize = 0;
-    while i < 8 {
-        a[i] = b[at + i];
-        i += 1;
-    }
-    a
+    array::from_fn(|i| b[at + i])
 }
 
 // The table in the first 27 bytes.
@@ -75,22 +64,14 @@ fn figure(t: Table, v: [u16; 8]) -> u64
     ensures { result ≡ figure t (state_of v) }
 {
     let s = State::of_words(v);
-    let c = s.c;
-    let p = s.p;
-    let both = std::num::wrapping_add_u64(word(c), word(p));
-    std::num::wrapping_add_u64(both, tasks::misses(t, v) as u64)
+    word(s.c).wrapping_add(word(s.p)).wrapping_add(tasks::misses(t, v) as u64)
 }
 
 // How many ticks there are.
 fn pairs(states: &[u8], masks: &[u8]) -> usize
     ensures { result ≡ pairs states.now masks.now }
 {
-    let whole = states.len() / 16;
-    if whole < masks.len() {
-        whole
-    } else {
-        masks.len()
-    }
+    (states.len() / 16).min(masks.len())
 }
 
 // A tick for each mask and each state of 16 bytes: the figures of the states after them, added up. The table is made ready once. The first tick stands before the
@@ -109,13 +90,10 @@ pub extern "C" fn ticks(table: &[u8], states: &[u8], masks: &[u8]) -> u64
         return 0;
     }
     let first = ticked(ticker, state_at(states, 0), masks[0]);
-    let mut sum = std::num::wrapping_add_u64(0, figure(t, first));
-    let mut k: usize = 1;
-    while k < n {
-        let s = state_at(states, k);
-        let after = ticked(ticker, s, masks[k]);
-        sum = std::num::wrapping_add_u64(sum, figure(t, after));
-        k += 1;
+    let mut sum = figure(t, first);
+    for k in 1..n {
+        let after = ticked(ticker, state_at(states, k), masks[k]);
+        sum = sum.wrapping_add(figure(t, after));
     }
     sum
 }

@@ -6,4 +6,4 @@ pub returns : goal.returns
 unfolding figure
 returns c =
     rw
-    (c.wrapping_add_u64.ensures.value, c.wrapping_add_u64-both.ensures.value, c.word.ensures, c.word-2.ensures, bool_number c.misses.result, c.misses.ensures, c.of_words-s.ensures)
+    (c.word.ensures, c.word-2.ensures, bool_number c.misses.result, c.misses.ensures, c.of_words-s.ensures)

@@ -1,11 +1,8 @@
-use Rattle.std.proofs.Common.{le-ltb, lt-ltb}
+use Rattle.std.proofs.Common.{◌∙◌}
 use Rattle.ticks.specs.Ticks.{pairs}
+use Rattle.ticks.proofs.Sums.{pick_min}
 use Rattle.ticks.proofs.pairs.Goals as goal
 
-pub returns-then-whole-masks : goal.returns-then-whole-masks
+pub returns : goal.returns
 unfolding pairs
-returns-then-whole-masks c = rw (lt-ltb _ _ c.if-whole-masks.true)
-
-pub returns-else-whole-masks : goal.returns-else-whole-masks
-unfolding pairs
-returns-else-whole-masks c = rw (le-ltb _ _ c.if-whole-masks.false)
+returns c = c.min.ensures ∙ pick_min _ _

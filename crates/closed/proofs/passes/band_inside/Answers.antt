@@ -16,41 +16,38 @@ overflow_add-classes c =
 
 pub loop-class-init : goal.loop-class-init
 loop-class-init c =
-    (omega arith, refl, classes_start _ _ _ _ _ _)
+    (refl, classes_start _ _ _ _ _ _)
 
 pub index_pass-requires : goal.index_pass-requires
 index_pass-requires c =
     let p = c.requires in
-    (p.0.given.whole, omega (arith, p.0.some, c.loop-class.invariant.1), omega arith, p.1)
+    (p.0.given.whole, omega (arith, p.0.some, c.loop-class.invariant.0), omega arith, p.1)
 
 pub rows_inside-requires : goal.rows_inside-requires
 rows_inside-requires c =
     let p = c.requires in
-    (ready_cells p.0 (c.index_pass.ensures ∙ c.loop-class.invariant.1), omega arith, p.1)
+    (ready_cells p.0 (c.index_pass.ensures ∙ c.loop-class.invariant.0), omega arith, p.1)
 
 pub shape_of-cells-then-not-rows_inside : goal.shape_of-cells-then-not-rows_inside
 shape_of-cells-then-not-rows_inside c =
-    c.index_pass.ensures ∙ c.loop-class.invariant.1
+    c.index_pass.ensures ∙ c.loop-class.invariant.0
 
 pub returns-then-not-rows_inside : goal.returns-then-not-rows_inside
 returns-then-not-rows_inside c =
     let none : c.rows_inside.result ≡ false = c.if-not-rows_inside.true in
-    (c.index_pass.ensures ∙ c.loop-class.invariant.1, rw none at c.rows_inside.ensures)
+    (c.index_pass.ensures ∙ c.loop-class.invariant.0, rw none at c.rows_inside.ensures)
 
 pub loop-class-preserved : goal.loop-class-preserved
 loop-class-preserved c =
     let a = c.args in
-    let yes : c.rows_inside.result ≡ true = c.if-not-rows_inside.false in (
-      omega arith,
-      c.index_pass.ensures ∙ c.loop-class.invariant.1,
-      classes_next a.t a.file.now a.split a.low a.high _ c.loop-class.invariant.2 (rw yes at c.rows_inside.ensures),
-    )
+    let yes : c.rows_inside.result ≡ true = c.if-not-rows_inside.false in
+    (c.index_pass.ensures ∙ c.loop-class.invariant.0, classes_next a.t a.file.now a.split a.low a.high _ c.loop-class.invariant.1 (rw yes at c.rows_inside.ensures))
 
 pub shape_of-cells : goal.shape_of-cells
 shape_of-cells c =
-    c.loop-class.invariant.1
+    c.loop-class.invariant.0
 
 pub returns : goal.returns
 returns c =
     let a = c.args in
-    (c.loop-class.invariant.1, classes_end a.t a.file.now a.split a.low a.high _ c.loop-class.invariant.2 (omega arith) c.loop-class-test.false)
+    (c.loop-class.invariant.0, classes_end a.t a.file.now a.split a.low a.high _ c.loop-class.invariant.1 (omega arith) (omega arith))

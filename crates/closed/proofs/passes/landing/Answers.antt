@@ -18,4 +18,4 @@ returns-else-released c =
 pub returns : goal.returns
 returns c =
     let a = c.args in
-    c.lesser.ensures ∙ ap (λ x. min x a.top) c.one_less.ensures.0 ∙ landing_far a.top a.gap a.released c.if-gap-eq0.false
+    c.min.ensures ∙ landing_far a.top a.gap a.released c.if-gap-eq0.false

@@ -1,26 +1,17 @@
-use mathlib.Core.Path.{◌≡◌}
-use mathlib.Core.Bool.{true, false}
-use Rattle.closed.proofs.PendingLaws.{held_none, held_next}
-use native.Mathlib.Omega.{arith}
+-- Each key is looked up. Assumes nothing.
+use Rattle.std.proofs.Common.{rules}
+use Rattle.levels.specs.Verdict.{Holds}
+use Rattle.states.specs.Keys.{key_in}
+use Rattle.closed.specs.Keeping.{key_at}
+use Rattle.closed.proofs.PendingLaws.{all_held_is}
+use Rattle.closed.proofs.Ranges.{all_below}
 use Rattle.closed.proofs.pending.all_held.Goals as goal
-
-pub loop-k-init : goal.loop-k-init
-loop-k-init c =
-    (omega arith, held_none)
-
-pub returns-then-not-holds : goal.returns-then-not-holds
-returns-then-not-holds c =
-    let l = c.loop-k in
-    let none : c.holds.result ≡ false = c.if-not-holds.true in
-    λ all. (rw none at c.holds.ensures) (rw c.key_at.ensures (all.each l.k c.loop-k-test.true))
-
-pub loop-k-preserved : goal.loop-k-preserved
-loop-k-preserved c =
-    let l = c.loop-k in
-    let yes : c.holds.result ≡ true = c.if-not-holds.false in
-    (omega arith, held_next l.invariant.1 (rw c.key_at.ensures at (rw yes at c.holds.ensures)))
 
 pub returns : goal.returns
 returns c =
-    let l = c.loop-k in
-    record { each = λ k h. l.invariant.1.each k (omega (arith, c.loop-k-test.false)) }
+    let file = c.args.file.now in
+    let n = c.args.n in
+    let pending = c.args.pending.now in
+    all_held_is file n pending c.args.count c.all.result
+    (all_below c.args.count {Yes = λ i. Holds (key_in file) n (key_at pending i)} {No = λ i. Holds (key_in file) n (key_at pending i) → ⊥} c.all.result c.all.ensures.ran
+    (λ x q k. (search rules, search rules)) (λ x q k. search rules))

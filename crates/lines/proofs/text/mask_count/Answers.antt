@@ -1,28 +1,26 @@
 -- Under Unsafe all masks of the trace space where L is no less than its length. Assumes nothing.
-use mathlib.Core.Path.{sym, ◌∙◌}
+use Prim.Native.Nat.{ℕ, min}
+use mathlib.Core.Path.{◌≡◌}
+use mathlib.Core.Logic.◌⊎◌.{inl, inr}
+use mathlib.Core.List.{List}
+use lib.ListN.{length, take}
 use lib.Seq.{take_all}
+use native.Mathlib.Decide.{dec_lt}
 use Rattle.lines.specs.Lines.{masks_given}
 use native.Mathlib.Omega.{arith}
 use Rattle.lines.proofs.text.mask_count.Goals as goal
 
-pub returns-then-l-n : goal.returns-then-l-n
-unfolding masks_given
-returns-then-l-n c = (omega arith, λ trace e. rw c.in-Unsafe.is)
+take_least : (l : ℕ) (xs : List ℕ) → take (min l (length xs)) xs ≡ take l xs
+take_least l xs =
+    elim (dec_lt l (length xs)) [
+      | yes h ↦ (let e : min l (length xs) ≡ l = omega arith in rw e)
+      | no h ↦ (let e : min l (length xs) ≡ length xs = omega arith in rw (e, take_all (length xs) xs (omega arith), take_all l xs (omega arith)))
+    ]
 
-pub returns-else-l-n : goal.returns-else-l-n
+pub returns-in-Unsafe : goal.returns-in-Unsafe
 unfolding masks_given
-returns-else-l-n c =
-    let left = c.if-l-n.false in
-    (omega arith, λ trace e. rw c.in-Unsafe.is (take_all c.args.n trace (omega arith) ∙ sym (take_all c.in-Unsafe.l trace (omega arith))))
+returns-in-Unsafe c = (omega (arith, c.min.ensures), λ trace e. rw (c.in-Unsafe.is, c.min.ensures, ← e) (take_least c.in-Unsafe.l trace))
 
 pub returns-in-Safe : goal.returns-in-Safe
 unfolding masks_given
-returns-in-Safe c = (omega arith, λ trace e. rw c.in-Safe.is)
-
-pub returns-in-NoRoom : goal.returns-in-NoRoom
-unfolding masks_given
-returns-in-NoRoom c = (omega arith, λ trace e. rw c.in-NoRoom.is)
-
-pub returns-in-Refused : goal.returns-in-Refused
-unfolding masks_given
-returns-in-Refused c = (omega arith, λ trace e. rw c.in-Refused.is)
+returns-in-Safe c = (omega arith, λ trace e. elim c.in-Safe.is [ inl s ↦ rw s.1 | inr s ↦ elim s [ inl n ↦ rw n.1 | inr r ↦ rw r.1 ] ])

@@ -7,28 +7,27 @@ use Rattle.lines.proofs.LineLaws.{masks_turn, masks_end}
 use native.Mathlib.Omega.{arith}
 use Rattle.lines.proofs.text.put_masks.Goals as goal
 
-pub loop-i-init : goal.loop-i-init
-loop-i-init c = let a = c.args in (omega arith, storing_start a.out.now a.from (mask_lines a.masks.now) c.requires)
+pub loop-mask-init : goal.loop-mask-init
+loop-mask-init c = let a = c.args in storing_start a.out.now a.from (mask_lines a.masks.now) c.requires
 
 pub put_line-at-requires : goal.put_line-at-requires
 put_line-at-requires c =
-    let l = c.loop-i in
-    let p = rw (masks_turn c.args.masks.now l.i c.loop-i-test.true) at l.invariant.1 in
-    rw c.wide.ensures.0 (storing_room (line [] (get_or c.args.masks.now l.i 0)) (mask_lines (drop (l.i + 1) c.args.masks.now)) p)
+    let l = c.loop-mask in
+    let p = rw (masks_turn c.args.masks.now l.mask-index (omega arith)) at l.invariant in
+    rw c.wide.ensures.0 (storing_room (line [] (get_or c.args.masks.now l.mask-index 0)) (mask_lines (drop (l.mask-index + 1) c.args.masks.now)) p)
 
-pub loop-i-preserved : goal.loop-i-preserved
-loop-i-preserved c =
-    let l = c.loop-i in
-    let p = rw (masks_turn c.args.masks.now l.i c.loop-i-test.true) at l.invariant.1 in
+pub loop-mask-preserved : goal.loop-mask-preserved
+loop-mask-preserved c =
+    let l = c.loop-mask in
+    let p = rw (masks_turn c.args.masks.now l.mask-index (omega arith)) at l.invariant in
     let w = rw c.wide.ensures.0 at c.put_line-at.ensures in
-    (omega arith, storing_step (line [] (get_or c.args.masks.now l.i 0)) (mask_lines (drop (l.i + 1) c.args.masks.now)) p w.1 w.0)
+    storing_step (line [] (get_or c.args.masks.now l.mask-index 0)) (mask_lines (drop (l.mask-index + 1) c.args.masks.now)) p w.1 w.0
 
 pub shape_of-out : goal.shape_of-out
-shape_of-out c = c.loop-i.invariant.1.len
+shape_of-out c = c.loop-mask.invariant.len
 
 pub returns : goal.returns
 returns c =
-    let l = c.loop-i in
-    let left = c.loop-i-test.false in
-    let p = rw (masks_end c.args.masks.now l.i (omega (arith, l.invariant.0))) at l.invariant.1 in
+    let l = c.loop-mask in
+    let p = rw (masks_end c.args.masks.now l.mask-index (omega arith)) at l.invariant in
     (omega (arith, p.place), storing_end p)

@@ -1,13 +1,6 @@
-use mathlib.Core.Path.{refl}
-use Rattle.lists.proofs.Fill.{filled_start, filled_store, filled_end}
-use native.Mathlib.Omega.{arith}
+use Rattle.std.proofs.Common.{rules, get_or, ◌+◌, ◌*◌}
+use Rattle.lists.proofs.Made.{made}
 use Rattle.ronchhek.proofs.tables.column.Goals as goal
 
-pub loop-i-init : goal.loop-i-init
-loop-i-init c = (omega arith, filled_start refl)
-
-pub loop-i-preserved : goal.loop-i-preserved
-loop-i-preserved c = (omega arith, filled_store c.loop-i.invariant.1 (omega arith) refl)
-
 pub returns : goal.returns
-returns c = filled_end c.loop-i.invariant.1 c.loop-i-test.false
+returns c = made _ (λ i. get_or c.args.b.now (c.args.at + 3 * i) 0) (λ i y q l k. search rules) c.from_fn.ensures.items

@@ -18,7 +18,7 @@ pub loop-i-init : goal.loop-i-init
 loop-i-init c =
     let a = c.args in
     let l : length (set (set (set a.out.now 0 a.t.policy) 1 a.t.m) 2 a.t.n) ≡ length a.out.now = simp length-set in
-    (omega arith, omega arith, storing_start _ 3 (entries a.t 8 0) (omega (arith, entries_length a.t 8 0)))
+    (omega arith, storing_start _ 3 (entries a.t 8 0) (omega (arith, entries_length a.t 8 0)))
 
 pub bounds-out-at-in-loop-i : goal.bounds-out-at-in-loop-i
 bounds-out-at-in-loop-i c = simp length-set (omega arith)
@@ -36,12 +36,12 @@ loop-i-preserved c =
     let two : at + 2 ≡ suc (suc at) = omega arith in
     let next : 3 + 3 * (i + 1) ≡ at + 3 = omega arith in
     let three = get_or t.work i 0 ∷ get_or t.deadline i 0 ∷ get_or t.gap i 0 ∷ [] in
-    let s = rw (entries_turn t i c.loop-i-test.true) at c.loop-i.invariant.2 in
-    (omega arith, simp length-set c.loop-i.invariant.1, storing_step three _ s (rw (one, two)) next)
+    let s = rw (entries_turn t i (omega arith)) at c.loop-i.invariant.1 in
+    (simp length-set c.loop-i.invariant.0, storing_step three _ s (rw (one, two)) next)
 
 pub shape_of-out : goal.shape_of-out
-shape_of-out c = c.loop-i.invariant.2.len ∙ simp length-set
+shape_of-out c = c.loop-i.invariant.1.len ∙ simp length-set
 
 pub returns : goal.returns
 unfolding table_bytes
-returns c = storing_end (rw (entries_end _ c.loop-i.i c.loop-i-test.false) at c.loop-i.invariant.2)
+returns c = storing_end (rw (entries_end _ c.loop-i.i (omega arith)) at c.loop-i.invariant.1)

@@ -6,7 +6,4 @@ use Rattle.ronchhek.specs.Tables.{entries}
 use Rattle.ronchhek.proofs.tables.put_table.Given as goal
 
 abbrev pub invariant-loop-i : goal.invariant-loop-i
-invariant-loop-i l = (l.i ≤ 8) × (27 ≤ length l.out) × Storing l.initial.out 3 (entries l.t 8 0) l.out (3 + 3 * l.i) (entries l.t (8 - l.i) l.i)
-
-abbrev pub decreases-loop-i : goal.decreases-loop-i
-decreases-loop-i l = 8 - l.i
+invariant-loop-i l = (27 ≤ length l.out) × Storing l.initial.out 3 (entries l.t 8 0) l.out (3 + 3 * l.i) (entries l.t (8 - l.i) l.i)
