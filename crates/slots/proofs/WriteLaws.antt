@@ -7,8 +7,9 @@ use native.Mathlib.Numerals.{add-one}
 use lib.ListN.{length, drop, set, length-append}
 use lib.Seq.{sets, sets-eq}
 use borrow.Author.Tests.{lt-ltb, le-ltb}
+use Rattle.std.specs.Prelude.{Ok, Err}
+use Rattle.tasks.specs.declared.refusal.Refusal.TheVariants.{ShortOutput}
 use Rattle.tasks.specs.declared.state.State.{State}
-use Rattle.tasks.specs.declared.writer.Writing.TheVariants as Writing
 use Rattle.tasks.proofs.Stores.{storing_start, storing_step}
 use Rattle.states.specs.Bytes.{twos, state_bytes}
 use Rattle.slots.specs.StateSpace.{state_writing, state_space}
@@ -35,10 +36,10 @@ state_stored : (s : State) (l : List ℕ) → 16 ≤ length l → sets l 0 (stat
 unfolding state_bytes
 state_stored s l h = sets-eq (state_bytes s) l 0 h
 
-pub space_short : (s : State) (out : List ℕ) → length out < 16 → (state_writing out ≡ Writing.Refused 12) × (state_space s out ≡ out)
+pub space_short : (s : State) (out : List ℕ) → length out < 16 → (state_writing out ≡ Err ShortOutput) × (state_space s out ≡ out)
 unfolding state_space
 space_short s out h = let e = lt-ltb (length out) 16 h in (rw e, rw e)
 
-pub space_room : (s : State) (out : List ℕ) → 16 ≤ length out → (state_writing out ≡ Writing.Written 16) × (state_space s out ≡ sets out 0 (state_bytes s))
+pub space_room : (s : State) (out : List ℕ) → 16 ≤ length out → (state_writing out ≡ Ok 16) × (state_space s out ≡ sets out 0 (state_bytes s))
 unfolding state_space
 space_room s out h = let e = le-ltb (length out) 16 h in (rw e, rw e (sym (state_stored s out h)))

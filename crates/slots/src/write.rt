@@ -1,13 +1,12 @@
 // The writers of a slot, one for each column: each is lent the part of the work space that starts at the slot's place in its column.
 ghost use Rattle.std.specs.Prelude.{◌≡◌, [], ◌∷◌, ◌*◌, ◌<◌, ◌≤◌, length};
 ghost use Rattle.std.proofs.lemmas.List.Edits.{sets};
-ghost use Rattle.tasks.specs.Answers.{writing_answer};
 ghost use Rattle.tasks.specs.Words.{state_of};
 ghost use Rattle.states.specs.Bytes.{state_bytes};
 ghost use Rattle.slots.specs.Layout.{slot, columns, four_bytes, write_slot};
 ghost use Rattle.slots.specs.StateSpace.{state_writing, state_space};
 
-use tasks::{State, Writing, gap_in, work_in};
+use tasks::{Refusal, State, gap_in, work_in};
 
 // Writes the sixteen bytes of a state in words.
 fn put_state(part: &mut [u8], v: [u16; 8])
@@ -47,12 +46,12 @@ pub fn put_slot(work: &mut [u8], k: usize, i: usize, v: [u16; 8], parent: u32, m
 }
 
 // Writes the sixteen bytes of a state at the front of the space, where it is long enough.
-pub fn write_state(s: State, out: &mut [u8]) -> Writing
-    ensures { (writing_answer result ≡ writing_answer (state_writing out.old)) × (out.new ≡ state_space s out.old) }
+pub fn write_state(s: State, out: &mut [u8]) -> Result<usize, Refusal>
+    ensures { (result ≡ state_writing out.old) × (out.new ≡ state_space s out.old) }
 {
     if out.len() < 16 {
-        return Writing::Refused(12);
+        return Err(Refusal::ShortOutput);
     }
     put_state(out, s.words());
-    Writing::Written(16)
+    Ok(16)
 }

@@ -3,6 +3,8 @@
 use Rattle.std.proofs.Common.{◌≡◌, ℕ, suc, ◌+◌, ◌<◌, ◌≤◌, true, false, ◌⊎◌, List, [], ◌∷◌, get_or, sym, refl, ap, ◌∙◌, add-one, arith, le-ltb, lt-ltb}
 use mathlib.Core.Logic.◌⊎◌.{inl, inr}
 use native.Mathlib.Decide.{dec_lt}
+use Rattle.std.specs.Prelude.{Result, Ok, Err}
+use Rattle.tasks.specs.declared.refusal.Refusal.{Refusal}
 use Rattle.tasks.specs.Table.{table_fault}
 use Rattle.tasks.specs.State.{start, improper}
 use Rattle.tasks.specs.Tick.{illegal, after, missed, refusal, ticked}
@@ -10,8 +12,8 @@ use Rattle.tasks.specs.Masks.{free_mask}
 use Rattle.tasks.specs.Replay as tasks
 use Rattle.tasks.specs.declared.state.State.{State}
 use Rattle.tasks.specs.declared.table.Table.{Table}
-use Rattle.tasks.specs.declared.tick.TickAnswer.{TickAnswer}
-use Rattle.tasks.specs.declared.tick.TickAnswer.TheVariants as Answer
+use Rattle.tasks.specs.declared.tick.Step.{Step}
+use Rattle.tasks.specs.declared.tick.Step.TheVariants as Answer
 use Rattle.tasks.specs.declared.play.Outcome.{Outcome}
 use Rattle.tasks.specs.declared.play.ReplayAnswer.{ReplayAnswer}
 use Rattle.tasks.specs.declared.play.Replayed.{Replayed}
@@ -59,10 +61,10 @@ step_legal t s m some =
       | no b ↦ absurd (some (step_large t s m (omega arith)))
     ]
 
-tick_next : (a : TickAnswer) (s u : State) → tick_of a s ≡ Next u → (a ≡ Answer.Next) × (s ≡ u)
-tick_next Answer.Next s u e = (refl, cc)
-tick_next Answer.Missed s u e = absurd (let z : ◌≡◌ {A = ℕ} 0 1 = cc in omega arith)
-tick_next (Answer.Refused r) s u e = absurd (let z : ◌≡◌ {A = ℕ} 0 1 = cc in omega arith)
+tick_next : (a : Result Step Refusal) (s u : State) → tick_of a s ≡ Next u → (a ≡ (Ok Answer.Next)) × (s ≡ u)
+tick_next (Ok Answer.Next) s u e = (refl, cc)
+tick_next (Ok Answer.Missed) s u e = absurd (let z : ◌≡◌ {A = ℕ} 0 1 = cc in omega arith)
+tick_next (Err r) s u e = absurd (let z : ◌≡◌ {A = ℕ} 0 1 = cc in omega arith)
 
 module _ (t : Table) (valid : table_fault t ≡ 0) where
   module _ (s : State) (proper : improper t s ≡ false) (m : ℕ) where
@@ -125,11 +127,11 @@ missed_answer (ReplayAnswer.Played (Outcome.Missed k)) s {L} e = let z : k ≡ L
 missed_answer (ReplayAnswer.Refused r k) s e = absurd (let z : ◌≡◌ {A = ℕ} 0 1 = cc in omega arith)
 
 step_replay :
-    (k : ℕ) (a : TickAnswer) (s s' : State) (rest : Replayed) (go : State → Replay State) → go s' ≡ replay_of rest.answer rest.state
+    (k : ℕ) (a : Result Step Refusal) (s s' : State) (rest : Replayed) (go : State → Replay State) → go s' ≡ replay_of rest.answer rest.state
     → levels.go_on k (tick_of a s') go ≡ replay_of (tasks.play_next (k + 1) s s' rest a).answer (tasks.play_next (k + 1) s s' rest a).state
-step_replay k Answer.Next s s' rest go e = e
-step_replay k Answer.Missed s s' rest go e = rw add-one
-step_replay k (Answer.Refused r) s s' rest go e = rw add-one
+step_replay k (Ok Answer.Next) s s' rest go e = e
+step_replay k (Ok Answer.Missed) s s' rest go e = rw add-one
+step_replay k (Err r) s s' rest go e = rw add-one
 
 module _ (t : Table) where
   played_replay :
