@@ -31,7 +31,7 @@ impl<'a> Body<'a> {
         array::from_fn(|i| bytes.get(i).copied().unwrap_or(0))
     }
 
-    // A byte.
+    // The next byte.
     pub fn byte(&mut self) -> u8 {
         u8::from_le_bytes(self.array())
     }
@@ -56,17 +56,13 @@ impl<'a> Body<'a> {
 
     // A table: policy, m, n, and eight each of work, deadline and gap.
     pub fn table(&mut self) -> Table {
-        let [policy, m, n] = self.array::<3>();
-        let work = self.array();
-        let deadline = self.array();
-        let gap = self.array();
         Table {
-            policy,
-            m,
-            n,
-            work,
-            deadline,
-            gap,
+            policy: self.byte(),
+            m: self.byte(),
+            n: self.byte(),
+            work: self.array(),
+            deadline: self.array(),
+            gap: self.array(),
         }
     }
 

@@ -3,6 +3,7 @@
 use crate::tick;
 use tasks::{State, Table, TickAnswer};
 
+// The columns of a work space.
 #[derive(Clone, Copy)]
 pub struct Columns<'a> {
     states: &'a [[u8; 16]],
@@ -33,15 +34,11 @@ fn equal(a: State, b: State) -> bool {
 // Whether the tick of one state under a mask gives another.
 fn leads(t: Table, from: State, mask: u8, to: State) -> bool {
     let ticked = from.tick(t, mask);
-    match ticked.answer {
-        TickAnswer::Next => equal(ticked.state, to),
-        TickAnswer::Missed => false,
-        TickAnswer::Refused(_) => false,
-    }
+    matches!(ticked.answer, TickAnswer::Next) && equal(ticked.state, to)
 }
 
 impl<'a> Columns<'a> {
-    // The columns of a work space.
+    // The columns of a space that is as long as they are, or up to 20 bytes longer.
     pub fn of(work: &'a [u8]) -> Self {
         let k = work.len() / 21;
         let (states, rest) = work.split_at(16 * k);

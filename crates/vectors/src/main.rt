@@ -74,7 +74,7 @@ fn read_whole(input: &mut impl Read, bytes: &mut [u8]) -> io::Result<bool> {
 
 // Reads the letter and the body of the next record, the body into the front of a space. None at the end of the
 // input, and where a body does not fit.
-fn record<'a>(input: &mut impl Read, space: &'a mut [u8]) -> io::Result<Option<(u8, &'a [u8])>> {
+fn record<'a>(input: &mut impl Read, space: &'a mut [u8]) -> io::Result<Option<(u8, Body<'a>)>> {
     let mut head = [0u8; 3];
     if !read_whole(input, &mut head)? {
         return Ok(None);
@@ -87,7 +87,7 @@ fn record<'a>(input: &mut impl Read, space: &'a mut [u8]) -> io::Result<Option<(
     if !read_whole(input, body)? {
         return Ok(None);
     }
-    Ok(Some((letter, body)))
+    Ok(Some((letter, Body(body))))
 }
 
 // A proved loop has to end, so this one counts its turns up to a number that no run reaches.
@@ -97,7 +97,7 @@ fn records(rt: &impl Print, input: &mut impl Read, space: &mut [u8]) -> io::Resu
             break;
         };
         match Kind::try_from(letter) {
-            Ok(kind) => answer(rt, kind, Body(body))?,
+            Ok(kind) => answer(rt, kind, body)?,
             Err(unknown) => println!(rt; "{unknown}")?,
         }
     }

@@ -102,10 +102,9 @@ fn count_of(answer: SearchAnswer) -> usize {
 
 // A body is a sheet after its length, then what is given of the spaces: the length of each, and their first byte.
 // Fills both, and does with them what is to be done. Nothing where one of them would be too long.
-fn lend<F: FnOnce(&[u8], &mut [u8], &mut [u8], Pattern) -> io::Result<()>>(
-    mut body: Body,
-    run: F,
-) -> io::Result<()>
+fn lend<F>(mut body: Body, run: F) -> io::Result<()>
+where
+    F: FnOnce(&[u8], &mut [u8], &mut [u8], Pattern) -> io::Result<()>,
     requires { F.IsAlwaysCallable run }
 {
     let mut work = [0u8; 65520];
@@ -130,16 +129,12 @@ pub fn search(rt: &impl Print, body: Body) -> io::Result<()> {
     lend(body, |sheet, work, trace, pattern| {
         let answer = search::search_sheet(sheet, work, trace);
         let t = tasks::read_sheet(sheet).table;
-        print(
-            rt,
-            answer,
-            t,
-            Left {
-                work,
-                trace,
-                pattern,
-            },
-        )
+        let left = Left {
+            work,
+            trace,
+            pattern,
+        };
+        print(rt, answer, t, left)
     })
 }
 
