@@ -2,7 +2,7 @@
 use crate::body::Body;
 use crate::space;
 use crate::text::{Hex, Refused, Shown};
-use std::{fmt, io};
+use std::io;
 use tasks::Reading;
 
 // The longest list that is cut.
@@ -40,13 +40,11 @@ pub fn of_state(rt: &impl Print, mut body: Body) -> io::Result<()> {
 // Kind g, a sheet, k and the length of an output: the number that the call for C programs returns, and
 // what it leaves in the output.
 pub fn of_sheet(rt: &impl Print, mut body: Body) -> io::Result<()> {
-    let mut space = [0u8; 256];
     let sheet = body.counted();
     let k = body.byte();
-    let out = &mut space[..usize::from(body.byte())];
-    space::OUTPUT.fill(out);
-    let number = ronchhek::ronchhek_cut(sheet, k, out);
-    println!(rt; "cut sheet {number} {}", Hex(out))
+    space::output(rt, "cut sheet", body.byte(), |out| {
+        Shown(ronchhek::ronchhek_cut(sheet, k, out))
+    })
 }
 
 // Kind h, a table, k and masks: the replay of the list, and that of the cut list in the cut table, or why the

@@ -1,7 +1,7 @@
 // Practice tables: policy, m and n are the first bytes of a body, and s the next two, low byte first.
 use crate::body::Body;
 use crate::space;
-use crate::text::{Hex, Shown};
+use crate::text::Shown;
 use std::io;
 
 // Kind d, four numbers: the table that they make, or its refusal.
@@ -14,11 +14,9 @@ pub fn table(rt: &impl Print, mut body: Body) -> io::Result<()> {
 // Kind m, four numbers and the length of an output: the number that the call for C programs returns, and
 // what it leaves in the output.
 pub fn make(rt: &impl Print, mut body: Body) -> io::Result<()> {
-    let mut space = [0u8; 256];
     let [policy, m, n] = body.array::<3>();
     let seed = body.pair();
-    let out = &mut space[..usize::from(body.byte())];
-    space::OUTPUT.fill(out);
-    let number = ronchhek::ronchhek_practice(policy, m, n, seed, out);
-    println!(rt; "made {number} {}", Hex(out))
+    space::output(rt, "made", body.byte(), |out| {
+        Shown(ronchhek::ronchhek_practice(policy, m, n, seed, out))
+    })
 }

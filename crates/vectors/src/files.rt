@@ -14,19 +14,25 @@ impl fmt::Display for Shown<ClosedAnswer> {
     }
 }
 
-// A file that is judged for a sheet.
+// How a file is judged for a sheet, and the number that the call for C programs returns.
 #[derive(Clone, Copy)]
-pub struct Judged<'a> {
-    pub sheet: &'a [u8],
-    pub file: &'a [u8],
+pub struct Judged {
+    answer: ClosedAnswer,
+    number: u64,
 }
 
-// How it is judged, and the number that the call for C programs returns.
-impl fmt::Display for Judged<'_> {
+impl Judged {
+    pub fn of(sheet: &[u8], file: &[u8]) -> Self {
+        Judged {
+            answer: closed::closed_sheet(sheet, file),
+            number: ronchhek::ronchhek_closed(sheet, file),
+        }
+    }
+}
+
+impl fmt::Display for Judged {
     fn fmt<W: fmt::Write>(&self, f: &mut fmt::Formatter<W>) -> fmt::Result {
-        let answer = closed::closed_sheet(self.sheet, self.file);
-        let number = ronchhek::ronchhek_closed(self.sheet, self.file);
-        write!(f, "{} {number}", Shown(answer))
+        write!(f, "{}{}", Shown(self.answer), Shown(self.number))
     }
 }
 
@@ -35,7 +41,7 @@ impl fmt::Display for Judged<'_> {
 pub fn judge(rt: &impl Print, mut body: Body) -> io::Result<()> {
     let sheet = body.counted();
     let file = body.rest();
-    println!(rt; "closed{}", Judged { sheet, file })
+    println!(rt; "closed{}", Judged::of(sheet, file))
 }
 
 // Kind f, a table and a file: how the file is judged.

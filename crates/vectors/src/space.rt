@@ -1,5 +1,7 @@
 // Lent spaces: what they hold beforehand, and what was changed of that.
+use crate::text::Hex;
 use std::ops::Range;
+use std::{fmt, io};
 
 // What a space holds beforehand: its first byte, and how much each next one is more, modulo 256.
 #[derive(Clone, Copy)]
@@ -8,8 +10,8 @@ pub struct Pattern {
     pub step: u8,
 }
 
-// What an output holds before it is lent.
-pub const OUTPUT: Pattern = Pattern {
+// What an output holds beforehand.
+const OUTPUT: Pattern = Pattern {
     first: 11,
     step: 37,
 };
@@ -33,4 +35,19 @@ impl Pattern {
         part.filter(|&i| space.get(i).is_some_and(|byte| *byte != self.at(i)))
             .count()
     }
+}
+
+// Prints the line of a call that is lent an output of some length: what it answers, and the whole output, which it has
+// to leave or write.
+pub fn output<D, F>(rt: &impl Print, label: &str, length: u8, call: F) -> io::Result<()>
+where
+    D: fmt::Display + Drop,
+    F: FnOnce(&mut [u8]) -> D,
+    requires { F.IsAlwaysCallable call }
+{
+    let mut space = [0u8; 256];
+    let out = &mut space[..usize::from(length)];
+    OUTPUT.fill(out);
+    let answer = call(out);
+    println!(rt; "{label}{answer} {}", Hex(out))
 }

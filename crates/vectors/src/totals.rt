@@ -1,7 +1,7 @@
 // Where the core time went: replays with three totals of each task.
 use crate::body::Body;
 use crate::space;
-use crate::text::{Hex, Shown};
+use crate::text::Shown;
 use service::Totals;
 use std::{fmt, io};
 
@@ -30,10 +30,10 @@ pub fn account(rt: &impl Print, mut body: Body) -> io::Result<()> {
 // Kind z, a sheet, the length of a totals space and masks: the number that the call for C programs
 // returns, and what it leaves in the space.
 pub fn call(rt: &impl Print, mut body: Body) -> io::Result<()> {
-    let mut space = [0u8; 256];
     let sheet = body.counted();
-    let totals = &mut space[..usize::from(body.byte())];
-    space::OUTPUT.fill(totals);
-    let number = ronchhek::ronchhek_service(sheet, body.rest(), totals);
-    println!(rt; "totals {number} {}", Hex(totals))
+    let length = body.byte();
+    let list = body.rest();
+    space::output(rt, "totals", length, |totals| {
+        Shown(ronchhek::ronchhek_service(sheet, list, totals))
+    })
 }

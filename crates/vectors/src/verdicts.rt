@@ -93,9 +93,7 @@ fn print(rt: &impl Print, answer: SearchAnswer, t: Table, left: Left) -> io::Res
 // How many slots a search wrote.
 fn count_of(answer: SearchAnswer) -> usize {
     match answer {
-        SearchAnswer::Safe(n) => n,
-        SearchAnswer::Unsafe(_, n) => n,
-        SearchAnswer::NoRoom(k) => k,
+        SearchAnswer::Safe(n) | SearchAnswer::Unsafe(_, n) | SearchAnswer::NoRoom(n) => n,
         SearchAnswer::Refused(_) => 0,
     }
 }
@@ -158,6 +156,6 @@ pub fn evidence(rt: &impl Print, body: Body) -> io::Result<()> {
     lend(body, |sheet, work, trace, _| {
         let answer = search::search_sheet(sheet, work, trace);
         let file = Columns::of(work).first(count_of(answer)).as_flattened();
-        println!(rt; "evidence {}{}", file.len(), Judged { sheet, file })
+        println!(rt; "evidence {}{}", file.len(), Judged::of(sheet, file))
     })
 }
