@@ -1,142 +1,100 @@
 // The three columns of a work space, laid out for all its slots, in which a search leaves those that it writes:
 // states of 16 bytes, parents of 4, low byte first, and masks of 1.
-use crate::{text, tick};
+use crate::tick;
 use tasks::{State, Table, TickAnswer};
 
-// The states of the first n slots, which stand at the front of a work space, and all of it where it has
-// fewer slots.
-pub fn states(work: &[u8], n: usize) -> &[u8] {
-    if n <= work.len() / 21 {
-        return text::first(work, 16 * n);
-    }
-    work
+// The columns of a work space.
+#[derive(Clone, Copy)]
+pub struct Columns<'a> {
+    states: &'a [[u8; 16]],
+    parents: &'a [[u8; 4]],
+    masks: &'a [u8],
 }
 
-// The bytes from the state of slot i on, and none after the last slot.
-fn state_at(work: &[u8], i: usize) -> &[u8] {
-    if i < work.len() / 21 {
-        return text::rest(work, 16 * i);
-    }
-    &work[..0]
+// A slot.
+#[derive(Clone, Copy)]
+struct Slot {
+    state: [u8; 16],
+    parent: usize,
+    mask: u8,
 }
 
-// The parent of slot i, and 0 after the last slot.
-fn parent_at(work: &[u8], i: usize) -> usize {
-    let k = work.len() / 21;
-    if i < k {
-        return text::four(text::rest(work, 16 * k + 4 * i));
-    }
-    0
-}
-
-// The mask of slot i, and 0 after the last slot.
-fn mask_at(work: &[u8], i: usize) -> u8 {
-    let k = work.len() / 21;
-    if i < k {
-        return text::byte(work, 20 * k + i);
-    }
-    0
-}
-
-// A hash with one byte more (FNV-1a; its low 32 bits are what counts).
-fn mix(hash: usize, byte: u8) -> usize {
-    ((hash ^ tasks::wide(byte)) % 4294967296) * 16777619
-}
-
-// The hash of the 16 bytes of a state.
-fn hash(state: &[u8]) -> usize {
-    let mut hash: usize = 2166136261;
-    let mut i: usize = 0;
-    while i < 16 {
-        hash = mix(hash, text::byte(state, i));
-        i += 1;
-    }
-    hash
-}
-
-// A sum modulo 2^32.
-fn sum(a: usize, b: usize) -> usize {
-    (a % 4294967296 + b % 4294967296) % 4294967296
-}
-
-// The sum of the hashes of states: the same for any order of them.
-pub fn digest(states: &[u8]) -> usize {
-    let mut digest: usize = 0;
-    let mut i: usize = 0;
-    while i < states.len() / 16 {
-        digest = sum(digest, hash(text::rest(states, 16 * i)));
-        i += 1;
-    }
-    digest
-}
-
-// Whether the 16 bytes of two states are the same.
-fn same(a: &[u8], b: &[u8]) -> bool {
-    let mut i: usize = 0;
-    while i < 16 && text::byte(a, i) == text::byte(b, i) {
-        i += 1;
-    }
-    i == 16
-}
-
-// Whether an earlier slot has the state of slot i.
-fn is_twice(work: &[u8], i: usize) -> bool {
-    let own = state_at(work, i);
-    let mut j: usize = 0;
-    while j < i && !same(state_at(work, j), own) {
-        j += 1;
-    }
-    j < i
+// The hash of the 16 bytes of a state (FNV-1a).
+fn hash(state: &[u8; 16]) -> u32 {
+    state.iter().fold(2166136261, |hash, byte| {
+        (hash ^ u32::from(*byte)).wrapping_mul(16777619)
+    })
 }
 
 // Whether two states have the same numbers.
 fn equal(a: State, b: State) -> bool {
-    let a_c = a.c;
-    let a_p = a.p;
-    let b_c = b.c;
-    let b_p = b.p;
-    let mut i: usize = 0;
-    while i < 8 && a_c[i] == b_c[i] && a_p[i] == b_p[i] {
-        i += 1;
-    }
-    i == 8
+    a.c == b.c && a.p == b.p
 }
 
 // Whether the tick of one state under a mask gives another.
 fn leads(t: Table, from: State, mask: u8, to: State) -> bool {
     let ticked = from.tick(t, mask);
-    let answer = ticked.answer;
-    match answer {
-        TickAnswer::Next => equal(ticked.state, to),
-        TickAnswer::Missed => false,
-        TickAnswer::Refused(_) => false,
-    }
+    matches!(ticked.answer, TickAnswer::Next) && equal(ticked.state, to)
 }
 
-// Whether slot 0 is the start state with parent 0 and mask 0, and any other slot has an earlier one as
-// its parent, whose tick under the mask gives its state.
-fn is_led_to(t: Table, work: &[u8], i: usize) -> bool {
-    let state = tick::of_body(state_at(work, i));
-    let parent = parent_at(work, i);
-    let mask = mask_at(work, i);
-    if i == 0 {
-        return parent == 0 && mask == 0 && equal(State::start(), state);
+impl<'a> Columns<'a> {
+    // The columns of a space that is as long as they are, or up to 20 bytes longer.
+    pub fn of(work: &'a [u8]) -> Self {
+        let k = work.len() / 21;
+        let (states, rest) = work.split_at(16 * k);
+        let (parents, rest) = rest.split_at(4 * k);
+        let (masks, _) = rest.split_at(k);
+        Columns {
+            states: states.as_chunks().0,
+            parents: parents.as_chunks().0,
+            masks,
+        }
     }
-    parent < i && leads(t, tick::of_body(state_at(work, parent)), mask, state)
-}
 
-// Whether a slot has the state of an earlier one, or a parent or a mask that does not lead to it.
-fn is_wrong(t: Table, work: &[u8], i: usize) -> bool {
-    is_twice(work, i) || !is_led_to(t, work, i)
-}
-
-// How many of the first n slots are wrong; of all where there are fewer.
-pub fn wrong(t: Table, work: &[u8], n: usize) -> usize {
-    let mut count: usize = 0;
-    let mut i: usize = 0;
-    while i < n && i < work.len() / 21 {
-        count += text::one(is_wrong(t, work, i));
-        i += 1;
+    // The states of the first n slots, and of all where there are fewer.
+    pub fn first(&self, n: usize) -> &'a [[u8; 16]] {
+        self.states.get(..n).unwrap_or(self.states)
     }
-    count
+
+    // The sum of the hashes of these states, modulo 2^32: the same for any order of them.
+    pub fn digest(&self, n: usize) -> u32 {
+        self.first(n).iter().map(hash).fold(0, u32::wrapping_add)
+    }
+
+    // The slot at a place.
+    fn slot(&self, i: usize) -> Option<Slot> {
+        Some(Slot {
+            state: *self.states.get(i)?,
+            parent: u32::from_le_bytes(*self.parents.get(i)?) as usize,
+            mask: *self.masks.get(i)?,
+        })
+    }
+
+    // Whether an earlier slot has the state of slot i.
+    fn is_twice(&self, i: usize, slot: Slot) -> bool {
+        self.states.iter().take(i).any(|state| *state == slot.state)
+    }
+
+    // Whether slot 0 is the start state with parent 0 and mask 0, and any other slot has an earlier one as
+    // its parent, whose tick under the mask gives its state.
+    fn is_led_to(&self, t: Table, i: usize, slot: Slot) -> bool {
+        let state = tick::of_bytes(slot.state);
+        if i == 0 {
+            return slot.parent == 0 && slot.mask == 0 && equal(State::start(), state);
+        }
+        self.states
+            .iter()
+            .take(i)
+            .nth(slot.parent)
+            .is_some_and(|from| leads(t, tick::of_bytes(*from), slot.mask, state))
+    }
+
+    // How many of the first n slots have the state of an earlier one, or a parent or a mask that does not lead
+    // to theirs; of all where there are fewer.
+    pub fn wrong(&self, t: Table, n: usize) -> usize {
+        (0..n)
+            .map_while(|i| Some((i, self.slot(i)?)))
+            .filter(|&(i, slot)| self.is_twice(i, slot) || !self.is_led_to(t, i, slot))
+            .count()
+    }
 }

@@ -1,37 +1,51 @@
 // Files of states, judged as evidence of Safe.
-use crate::{table, text};
+use crate::body::Body;
+use crate::text::{Refused, Shown};
 use closed::ClosedAnswer;
-use std::io;
+use std::{fmt, io};
 
-// Prints how a file is judged.
-fn print_answer(rt: &impl Print, answer: ClosedAnswer) -> io::Result<()> {
-    match answer {
-        ClosedAnswer::Accepted => text::put(rt, b" accepted"),
-        ClosedAnswer::No => text::put(rt, b" no"),
-        ClosedAnswer::Refused(r) => text::refused(rt, r),
+impl fmt::Display for Shown<ClosedAnswer> {
+    fn fmt<W: fmt::Write>(&self, f: &mut fmt::Formatter<W>) -> fmt::Result {
+        match self.0 {
+            ClosedAnswer::Accepted => write!(f, " accepted"),
+            ClosedAnswer::No => write!(f, " no"),
+            ClosedAnswer::Refused(r) => write!(f, "{}", Refused(r)),
+        }
     }
 }
 
-// Prints how a file is judged for a sheet, and the number that the call for C programs returns.
-pub fn print_judged(rt: &impl Print, sheet: &[u8], file: &[u8]) -> io::Result<()> {
-    print_answer(rt, closed::closed_sheet(sheet, file))?;
-    text::long(rt, ronchhek::ronchhek_closed(sheet, file))
+// How a file is judged for a sheet, and the number that the call for C programs returns.
+#[derive(Clone, Copy)]
+pub struct Judged {
+    answer: ClosedAnswer,
+    number: u64,
+}
+
+impl Judged {
+    pub fn of(sheet: &[u8], file: &[u8]) -> Self {
+        Judged {
+            answer: closed::closed_sheet(sheet, file),
+            number: ronchhek::ronchhek_closed(sheet, file),
+        }
+    }
+}
+
+impl fmt::Display for Judged {
+    fn fmt<W: fmt::Write>(&self, f: &mut fmt::Formatter<W>) -> fmt::Result {
+        write!(f, "{}{}", Shown(self.answer), Shown(self.number))
+    }
 }
 
 // Kind c, a sheet and a file: how the file is judged, and the number that the call for C programs
 // returns.
-pub fn judge(rt: &impl Print, body: &[u8]) -> io::Result<()> {
-    let length = tasks::wide(text::byte(body, 0));
-    let sheet = text::first(text::rest(body, 1), length);
-    text::put(rt, b"closed")?;
-    print_judged(rt, sheet, text::rest(body, 1 + length))?;
-    text::end(rt)
+pub fn judge(rt: &impl Print, mut body: Body) -> io::Result<()> {
+    let sheet = body.counted();
+    let file = body.rest();
+    println!(rt; "closed{}", Judged::of(sheet, file))
 }
 
 // Kind f, a table and a file: how the file is judged.
-pub fn judge_table(rt: &impl Print, body: &[u8]) -> io::Result<()> {
-    let t = table::of_body(body);
-    text::put(rt, b"file")?;
-    print_answer(rt, closed::closed_table(t, text::rest(body, table::LENGTH)))?;
-    text::end(rt)
+pub fn judge_table(rt: &impl Print, mut body: Body) -> io::Result<()> {
+    let t = body.table();
+    println!(rt; "file{}", Shown(closed::closed_table(t, body.rest())))
 }

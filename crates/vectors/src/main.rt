@@ -3,10 +3,12 @@
 // tests/make_vectors.py makes the records and the lines expected, and says what each kind holds.
 #![tactic(auto)]
 
+mod body;
 mod columns;
 mod cuts;
 mod drawn;
 mod files;
+mod kind;
 mod number;
 mod sessions;
 mod sheet;
@@ -18,38 +20,46 @@ mod totals;
 mod verdicts;
 mod writer;
 
+use body::Body;
+use kind::Kind;
 use std::io;
 use std::io::{ErrorKind, Read};
 
-// Prints the line of one record.
-fn answer(rt: &impl Print, kind: u8, body: &[u8]) -> io::Result<()> {
+// Prints a title, as a line that starts with #.
+fn title(rt: &impl Print, body: Body) -> io::Result<()> {
+    print!(rt; "# ")?;
+    rt.write_all(body.rest())?;
+    println!(rt)
+}
+
+// Prints the line of one record of a known kind.
+fn answer(rt: &impl Print, kind: Kind, body: Body) -> io::Result<()> {
     match kind {
-        b'#' => text::title(rt, body),
-        b'n' => number::number(rt, body),
-        b's' => sheet::sheet(rt, body),
-        b't' => table::table(rt, body),
-        b'w' => writer::write(rt, body),
-        b'r' => writer::round(rt, body),
-        b'd' => drawn::table(rt, body),
-        b'm' => drawn::make(rt, body),
-        b'k' => tick::tick(rt, body),
-        b'p' => tick::replay(rt, body),
-        b'v' => verdicts::lend(rt, kind, body),
-        b'q' => verdicts::lend(rt, kind, body),
-        b'l' => verdicts::lend(rt, kind, body),
-        b'e' => verdicts::lend(rt, kind, body),
-        b'c' => files::judge(rt, body),
-        b'f' => files::judge_table(rt, body),
-        b'u' => totals::account(rt, body),
-        b'z' => totals::call(rt, body),
-        b'x' => sessions::calls(rt, body),
-        b'y' => sessions::calls_for_c(rt, body),
-        b'a' => cuts::of_table(rt, body),
-        b'b' => cuts::of_state(rt, body),
-        b'g' => cuts::of_sheet(rt, body),
-        b'h' => cuts::of_list(rt, body),
-        b'j' => tick::after(rt, body),
-        _ => text::unknown(rt),
+        Kind::Title => title(rt, body),
+        Kind::Number => number::number(rt, body),
+        Kind::Sheet => sheet::sheet(rt, body),
+        Kind::Table => table::table(rt, body),
+        Kind::Write => writer::write(rt, body),
+        Kind::Round => writer::round(rt, body),
+        Kind::Practice => drawn::table(rt, body),
+        Kind::Made => drawn::make(rt, body),
+        Kind::Tick => tick::tick(rt, body),
+        Kind::Replay => tick::replay(rt, body),
+        Kind::Search => verdicts::search(rt, body),
+        Kind::Call => verdicts::call(rt, body),
+        Kind::Layout => verdicts::layout(rt, body),
+        Kind::Evidence => verdicts::evidence(rt, body),
+        Kind::Closed => files::judge(rt, body),
+        Kind::File => files::judge_table(rt, body),
+        Kind::Service => totals::account(rt, body),
+        Kind::Totals => totals::call(rt, body),
+        Kind::Session => sessions::calls(rt, body),
+        Kind::Calls => sessions::calls_for_c(rt, body),
+        Kind::CutTable => cuts::of_table(rt, body),
+        Kind::CutState => cuts::of_state(rt, body),
+        Kind::CutSheet => cuts::of_sheet(rt, body),
+        Kind::CutList => cuts::of_list(rt, body),
+        Kind::After => tick::after(rt, body),
     }
 }
 
@@ -62,49 +72,33 @@ fn read_whole(input: &mut impl Read, bytes: &mut [u8]) -> io::Result<bool> {
     }
 }
 
-// Reads a body that fills the bytes lent, prints its line, and answers whether the body was whole.
-fn read_body(
-    rt: &impl Print,
-    input: &mut impl Read,
-    kind: u8,
-    body: &mut [u8],
-) -> io::Result<bool> {
-    if !read_whole(input, body)? {
-        return Ok(false);
-    }
-    answer(rt, kind, body)?;
-    Ok(true)
-}
-
-// Reads a body of some length into the front of a space. A body that does not fit ends the run.
-fn read_front(
-    rt: &impl Print,
-    input: &mut impl Read,
-    kind: u8,
-    length: usize,
-    space: &mut [u8],
-) -> io::Result<bool> {
-    if space.len() < length {
-        return Ok(false);
-    }
-    read_body(rt, input, kind, &mut space[..length])
-}
-
-// Reads one record by way of a space and prints its line. Answers false at the end of the input.
-fn record(rt: &impl Print, input: &mut impl Read, space: &mut [u8]) -> io::Result<bool> {
+// Reads the letter and the body of the next record, the body into the front of a space. None at the end of the
+// input, and where a body does not fit.
+fn record<'a>(input: &mut impl Read, space: &'a mut [u8]) -> io::Result<Option<(u8, Body<'a>)>> {
     let mut head = [0u8; 3];
     if !read_whole(input, &mut head)? {
-        return Ok(false);
+        return Ok(None);
     }
-    let length = tasks::wide(head[1]) + 256 * tasks::wide(head[2]);
-    read_front(rt, input, head[0], length, space)
+    let [letter, low, high] = head;
+    let length = usize::from(u16::from_le_bytes([low, high]));
+    let Some(body) = space.get_mut(..length) else {
+        return Ok(None);
+    };
+    if !read_whole(input, body)? {
+        return Ok(None);
+    }
+    Ok(Some((letter, Body(body))))
 }
 
 // A proved loop has to end, so this one counts its turns up to a number that no run reaches.
 fn records(rt: &impl Print, input: &mut impl Read, space: &mut [u8]) -> io::Result<()> {
     for _ in 0..u64::MAX {
-        if !record(rt, input, space)? {
+        let Some((letter, body)) = record(input, space)? else {
             break;
+        };
+        match Kind::try_from(letter) {
+            Ok(kind) => answer(rt, kind, body)?,
+            Err(unknown) => println!(rt; "{unknown}")?,
         }
     }
     Ok(())

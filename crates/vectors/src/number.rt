@@ -1,19 +1,21 @@
 // Sheet numbers.
-use crate::text;
-use std::io;
+use crate::body::Body;
+use crate::text::{Refused, Shown};
+use std::{fmt, io};
 use tasks::Number;
 
-// Kind n, a place and bytes: the number that starts there, and the place after it.
-pub fn number(rt: &impl Print, body: &[u8]) -> io::Result<()> {
-    let at = tasks::wide(text::byte(body, 0));
-    let read = tasks::read_number(text::rest(body, 1), at);
-    text::put(rt, b"number")?;
-    match read {
-        Number::Value(value, next) => {
-            text::number(rt, value)?;
-            text::number(rt, next)?;
+// A number and the place after it, or its refusal.
+impl fmt::Display for Shown<Number> {
+    fn fmt<W: fmt::Write>(&self, f: &mut fmt::Formatter<W>) -> fmt::Result {
+        match self.0 {
+            Number::Value(value, next) => write!(f, " {value} {next}"),
+            Number::Refused(r) => write!(f, "{}", Refused(r)),
         }
-        Number::Refused(r) => text::refused(rt, r)?,
     }
-    text::end(rt)
+}
+
+// Kind n, a place and bytes: the number that starts there, and the place after it.
+pub fn number(rt: &impl Print, mut body: Body) -> io::Result<()> {
+    let at = usize::from(body.byte());
+    println!(rt; "number{}", Shown(tasks::read_number(body.rest(), at)))
 }

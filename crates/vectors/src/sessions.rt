@@ -1,192 +1,97 @@
 // Sessions: lists of calls, by value and as a C program makes them. A call is two bytes, which call it is and its
 // mask or mark.
-ghost use Rattle.std.specs.Prelude.{◌<◌, ◌≤◌};
+use crate::body::Body;
+use crate::text::{Hex, Refused, Shown};
+use crate::tick;
+use session::{Call, Session, SessionAnswer};
+use std::{fmt, io};
+use tasks::Table;
 
-use crate::{space, table, text, tick};
-use session::{Called, Mark, Session, SessionAnswer, Stepped};
-use std::io;
-use tasks::{State, Table, TickAnswer};
-
-// How many bytes a session has in a body: flags, the present state, and the states of the marks.
-const LENGTH: usize = 145;
-
-// The ith mark of a session in a body, with its state also where it is not set.
-fn mark_of(b: &[u8], i: usize) -> Mark
-    requires { i < 8 }
-{
-    let set = tasks::has_bit(text::byte(b, 0), i);
-    let state = tick::of_body(text::rest(b, 17 + 16 * i));
-    Mark { set, state }
-}
-
-// The session at the front of a body.
-fn of_body(b: &[u8]) -> Session {
-    let present = tick::of_body(text::rest(b, 1));
-    let fresh = Session::fresh();
-    let mut marks = fresh.marks;
-    let mut i: usize = 0;
-    while i < 8 {
-        marks[i] = mark_of(b, i);
-        i += 1;
-    }
-    Session { present, marks }
-}
-
-// Prints the bytes of a state.
-fn print_state(rt: &impl Print, s: State) -> io::Result<()> {
-    let c = s.c;
-    let p = s.p;
-    let mut i: usize = 0;
-    while i < 8 {
-        text::digits(rt, c[i])?;
-        text::digits(rt, p[i])?;
-        i += 1;
-    }
-    Ok(())
-}
-
-// The number of four flags, the first the lowest.
-fn four_flags(a: Mark, b: Mark, c: Mark, d: Mark) -> usize
-    ensures { result ≤ 15 }
-{
-    text::one(a.set) + 2 * text::one(b.set) + 4 * text::one(c.set) + 8 * text::one(d.set)
-}
-
-// Prints the flags of eight marks.
-fn print_flags(rt: &impl Print, x: Session) -> io::Result<()> {
-    let m = x.marks;
-    let low = four_flags(m[0], m[1], m[2], m[3]);
-    let high = four_flags(m[4], m[5], m[6], m[7]);
-    text::digits(rt, (low + 16 * high) as u8)
-}
-
-// Prints the bytes of a session, those of marks that are not set too.
-fn print(rt: &impl Print, x: Session) -> io::Result<()> {
-    text::put(rt, b" ")?;
-    print_flags(rt, x)?;
-    print_state(rt, x.present)?;
-    let marks = x.marks;
-    let mut i: usize = 0;
-    while i < 8 {
-        let mark = marks[i];
-        print_state(rt, mark.state)?;
-        i += 1;
-    }
-    Ok(())
-}
-
-// Prints what a step answers, with the tick's state.
-fn print_stepped(rt: &impl Print, r: Stepped) -> io::Result<()> {
-    let ticked = r.ticked;
-    let answer = ticked.answer;
-    tick::print_answer(rt, answer)?;
-    text::put(rt, b" ")?;
-    print_state(rt, ticked.state)
-}
-
-// Prints what a call on marks answers.
-fn print_called(rt: &impl Print, r: Called) -> io::Result<()> {
-    let answer = r.answer;
-    match answer {
-        SessionAnswer::Done => text::put(rt, b" done"),
-        SessionAnswer::Missed => text::put(rt, b" missed"),
-        SessionAnswer::Refused(n) => text::refused(rt, n),
+// The bytes of a session, those of marks that are not set too.
+impl fmt::Display for Shown<Session> {
+    fn fmt<W: fmt::Write>(&self, f: &mut fmt::Formatter<W>) -> fmt::Result {
+        let x = self.0;
+        let flags = x.marks.iter().rev().fold(
+            0u8,
+            |flags, mark| flags.wrapping_mul(2) | u8::from(mark.set),
+        );
+        write!(f, " {flags:02x}{}", Hex(&tick::to_bytes(x.present)))?;
+        for mark in &x.marks {
+            write!(f, "{}", Hex(&tick::to_bytes(mark.state)))?;
+        }
+        Ok(())
     }
 }
 
-// One call by value, printed; the session after it.
-fn call(rt: &impl Print, t: Table, x: Session, which: u8, number: u8) -> io::Result<Session> {
-    if which == 0 {
-        let stepped = x.step(t, number);
-        print_stepped(rt, stepped)?;
-        return Ok(stepped.session);
+// What a call on marks answers.
+impl fmt::Display for Shown<SessionAnswer> {
+    fn fmt<W: fmt::Write>(&self, f: &mut fmt::Formatter<W>) -> fmt::Result {
+        match self.0 {
+            SessionAnswer::Done => write!(f, " done"),
+            SessionAnswer::Missed => write!(f, " missed"),
+            SessionAnswer::Refused(n) => write!(f, "{}", Refused(n)),
+        }
     }
-    if which == 1 {
-        let marked = x.set_mark(t, number);
-        print_called(rt, marked)?;
-        return Ok(marked.session);
+}
+
+// The call in two bytes.
+fn call_of(bytes: [u8; 2]) -> Call {
+    match bytes {
+        [0, mask] => Call::Step(mask),
+        [1, mark] => Call::SetMark(mark),
+        [_, mark] => Call::ReturnTo(mark),
     }
-    let returned = x.return_to(t, number);
-    print_called(rt, returned)?;
-    Ok(returned.session)
+}
+
+// One call by value, printed, a step with the tick's state; the session after it.
+fn call(rt: &impl Print, t: Table, x: Session, call: Call) -> io::Result<Session> {
+    let called = match call {
+        Call::Step(mask) => {
+            let stepped = x.step(t, mask);
+            let state = tick::to_bytes(stepped.ticked.state);
+            print!(rt; "{} {}", Shown(stepped.ticked.answer), Hex(&state))?;
+            return Ok(stepped.session);
+        }
+        Call::SetMark(mark) => x.set_mark(t, mark),
+        Call::ReturnTo(mark) => x.return_to(t, mark),
+    };
+    print!(rt; "{}", Shown(called.answer))?;
+    Ok(called.session)
 }
 
 // Kind x, a table, a session and calls: what each answers, and the session after them.
-pub fn calls(rt: &impl Print, body: &[u8]) -> io::Result<()> {
-    let t = table::of_body(body);
-    let mut x = of_body(text::rest(body, table::LENGTH));
-    let list = text::rest(body, table::LENGTH + LENGTH);
-    text::put(rt, b"session")?;
-    let mut i: usize = 0;
-    while i < list.len() / 2 {
-        x = call(
-            rt,
-            t,
-            x,
-            text::byte(list, 2 * i),
-            text::byte(list, 2 * i + 1),
-        )?;
-        i += 1;
+pub fn calls(rt: &impl Print, mut body: Body) -> io::Result<()> {
+    let t = body.table();
+    let mut x = body.session();
+    print!(rt; "session")?;
+    let (calls, _) = body.rest().as_chunks();
+    for bytes in calls {
+        x = call(rt, t, x, call_of(*bytes))?;
     }
-    print(rt, x)?;
-    text::end(rt)
+    println!(rt; "{}", Shown(x))
 }
 
 // One call as a C program makes it.
-fn call_bytes(sheet: &[u8], session: &mut [u8], which: u8, number: u8) -> u64 {
-    if which == 0 {
-        return ronchhek::ronchhek_session_step(sheet, session, number);
+fn call_for_c(sheet: &[u8], session: &mut [u8], call: Call) -> u64 {
+    match call {
+        Call::Step(mask) => ronchhek::ronchhek_session_step(sheet, session, mask),
+        Call::SetMark(mark) => ronchhek::ronchhek_session_mark(sheet, session, mark),
+        Call::ReturnTo(mark) => ronchhek::ronchhek_session_return(sheet, session, mark),
     }
-    if which == 1 {
-        return ronchhek::ronchhek_session_mark(sheet, session, number);
-    }
-    ronchhek::ronchhek_session_return(sheet, session, number)
-}
-
-// A list of them, printed, and the session's bytes after it.
-fn calls_in(rt: &impl Print, sheet: &[u8], session: &mut [u8], list: &[u8]) -> io::Result<()> {
-    text::put(rt, b"calls")?;
-    let mut i: usize = 0;
-    while i < list.len() / 2 {
-        text::long(
-            rt,
-            call_bytes(
-                sheet,
-                session,
-                text::byte(list, 2 * i),
-                text::byte(list, 2 * i + 1),
-            ),
-        )?;
-        i += 1;
-    }
-    text::output(rt, session)?;
-    text::end(rt)
-}
-
-// Calls with the session's bytes in the front of a space.
-fn calls_front(
-    rt: &impl Print,
-    sheet: &[u8],
-    bytes: &[u8],
-    list: &[u8],
-    space: &mut [u8],
-) -> io::Result<()> {
-    space::copy(bytes, space);
-    let length = bytes.len();
-    if length <= space.len() {
-        calls_in(rt, sheet, &mut space[..length], list)?;
-    }
-    Ok(())
 }
 
 // Kind y, a sheet, the bytes of a session and calls: the number that each call for C programs returns, and the
 // bytes after them.
-pub fn calls_for_c(rt: &impl Print, body: &[u8]) -> io::Result<()> {
-    let length = tasks::wide(text::byte(body, 0));
-    let sheet = text::first(text::rest(body, 1), length);
-    let after = text::rest(body, 1 + length);
-    let size = tasks::wide(text::byte(after, 0));
-    let bytes = text::first(text::rest(after, 1), size);
+pub fn calls_for_c(rt: &impl Print, mut body: Body) -> io::Result<()> {
     let mut space = [0u8; 256];
-    calls_front(rt, sheet, bytes, text::rest(after, 1 + size), &mut space)
+    let sheet = body.counted();
+    let bytes = body.counted();
+    let session = &mut space[..bytes.len()];
+    session.copy_from_slice(bytes);
+    print!(rt; "calls")?;
+    let (calls, _) = body.rest().as_chunks();
+    for bytes in calls {
+        print!(rt; " {}", call_for_c(sheet, session, call_of(*bytes)))?;
+    }
+    println!(rt; " {}", Hex(session))
 }

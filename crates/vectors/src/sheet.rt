@@ -1,24 +1,20 @@
 // Sheets that are read.
-use crate::{table, text};
-use std::io;
+use crate::body::Body;
+use crate::text::{Refused, Shown};
+use std::{fmt, io};
 use tasks::{Reading, Sheet};
 
-// Kind s, a sheet: the table that it is read as, or its refusal.
-pub fn sheet(rt: &impl Print, body: &[u8]) -> io::Result<()> {
-    let read = tasks::read_sheet(body);
-    text::put(rt, b"sheet")?;
-    print(rt, read)
+// A table, or its refusal.
+impl fmt::Display for Shown<Sheet> {
+    fn fmt<W: fmt::Write>(&self, f: &mut fmt::Formatter<W>) -> fmt::Result {
+        match self.0.answer {
+            Reading::Accepted => write!(f, " accepted{}", Shown(self.0.table)),
+            Reading::Refused(r) => write!(f, "{}", Refused(r)),
+        }
+    }
 }
 
-// Ends a line with a table, or its refusal.
-pub fn print(rt: &impl Print, read: Sheet) -> io::Result<()> {
-    let answer = read.answer;
-    match answer {
-        Reading::Accepted => {
-            text::put(rt, b" accepted")?;
-            table::print(rt, read.table)?;
-        }
-        Reading::Refused(r) => text::refused(rt, r)?,
-    }
-    text::end(rt)
+// Kind s, a sheet: the table that it is read as, or its refusal.
+pub fn sheet(rt: &impl Print, body: Body) -> io::Result<()> {
+    println!(rt; "sheet{}", Shown(tasks::read_sheet(body.rest())))
 }

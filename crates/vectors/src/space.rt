@@ -1,40 +1,53 @@
-// Lent spaces: what they are filled with beforehand, and what was changed of that.
-use crate::text;
+// Lent spaces: what they hold beforehand, and what was changed of that.
+use crate::text::Hex;
+use std::ops::Range;
+use std::{fmt, io};
 
-// Fills a space: its first byte as given, each next one a step more, modulo 256.
-pub fn fill(space: &mut [u8], first: u8, step: u8) {
-    let mut x = first;
-    let mut i: usize = 0;
-    while i < space.len() {
-        space[i] = x;
-        x = std::num::wrapping_add_u8(x, step);
-        i += 1;
+// What a space holds beforehand: its first byte, and how much each next one is more, modulo 256.
+#[derive(Clone, Copy)]
+pub struct Pattern {
+    pub first: u8,
+    pub step: u8,
+}
+
+// What an output holds beforehand.
+const OUTPUT: Pattern = Pattern {
+    first: 11,
+    step: 37,
+};
+
+impl Pattern {
+    // The byte at a place.
+    fn at(self, place: usize) -> u8 {
+        let low = (place % 256) as u8;
+        self.first.wrapping_add(self.step.wrapping_mul(low))
+    }
+
+    // Fills a space.
+    pub fn fill(self, space: &mut [u8]) {
+        for (i, byte) in space.iter_mut().enumerate() {
+            *byte = self.at(i);
+        }
+    }
+
+    // How many bytes of a part of a space are not as they were.
+    pub fn changed(self, space: &[u8], part: Range<usize>) -> usize {
+        part.filter(|&i| space.get(i).is_some_and(|byte| *byte != self.at(i)))
+            .count()
     }
 }
 
-// Copies bytes to the front of a space, as many as it has room for; the rest of it is 0.
-pub fn copy(bytes: &[u8], space: &mut [u8]) {
-    let mut i: usize = 0;
-    while i < space.len() {
-        space[i] = text::byte(bytes, i);
-        i += 1;
-    }
-}
-
-// Whether a place is within a part, and its byte another than it was.
-fn counts(from: usize, to: usize, at: usize, byte: u8, before: u8) -> bool {
-    from <= at && at < to && byte != before
-}
-
-// How many bytes from one place up to another are not what `fill` put there.
-pub fn changed(space: &[u8], from: usize, to: usize, first: u8, step: u8) -> usize {
-    let mut count: usize = 0;
-    let mut x = first;
-    let mut i: usize = 0;
-    while i < space.len() {
-        count += text::one(counts(from, to, i, space[i], x));
-        x = std::num::wrapping_add_u8(x, step);
-        i += 1;
-    }
-    count
+// Prints the line of a call that is lent an output of some length: what it answers, and the whole output, which it has
+// to leave or write.
+pub fn output<D, F>(rt: &impl Print, label: &str, length: u8, call: F) -> io::Result<()>
+where
+    D: fmt::Display + Drop,
+    F: FnOnce(&mut [u8]) -> D,
+    requires { F.IsAlwaysCallable call }
+{
+    let mut space = [0u8; 256];
+    let out = &mut space[..usize::from(length)];
+    OUTPUT.fill(out);
+    let answer = call(out);
+    println!(rt; "{label}{answer} {}", Hex(out))
 }

@@ -10,13 +10,12 @@ use std::io::Read;
 fn read_full(input: &mut impl Read, bytes: &mut [u8]) -> io::Result<usize>
     ensures { IfOk result (λ got. got ≤ length bytes.new) }
 {
-    let mut got: usize = 0;
+    let mut got = 0;
     while got < bytes.len() {
-        let more = input.read(&mut bytes[got..])?;
-        if more == 0 {
-            break;
+        match input.read(&mut bytes[got..])? {
+            0 => break,
+            more => got += more,
         }
-        got += more;
     }
     Ok(got)
 }
