@@ -1,8 +1,9 @@
 // The body of a record, read from its front on. After its end each number is 0, and there are no more bytes.
 ghost use Rattle.std.specs.Prelude.{◌<◌, ◌≤◌, length};
 
+use crate::sessions::Kept;
 use crate::tick;
-use session::{Mark, Session};
+use session::Session;
 use std::array;
 use tasks::{State, Table};
 
@@ -72,14 +73,14 @@ impl<'a> Body<'a> {
     }
 
     // A session: flags, the present state, and the state of each mark, also where it is not set.
-    pub fn session(&mut self) -> Session {
+    pub fn session(&mut self) -> Kept {
         let flags = self.byte();
         let present = self.state();
-        let marks = array::from_fn(|i| {
-            let set = tasks::has_bit(flags, i);
-            let state = self.state();
-            Mark { set, state }
-        });
-        Session { present, marks }
+        let unset = array::from_fn(|_| self.state());
+        let marks = array::from_fn(|i| tasks::has_bit(flags, i).then_some(unset[i]));
+        Kept {
+            session: Session { present, marks },
+            unset,
+        }
     }
 }

@@ -1,7 +1,7 @@
 // The three columns of a work space, laid out for all its slots, in which a search leaves those that it writes:
 // states of 16 bytes, parents of 4, low byte first, and masks of 1.
 use crate::tick;
-use tasks::{State, Table, TickAnswer};
+use tasks::{State, Step, Table};
 
 // The columns of a work space.
 #[derive(Clone, Copy)]
@@ -26,15 +26,10 @@ fn hash(state: &[u8; 16]) -> u32 {
     })
 }
 
-// Whether two states have the same numbers.
-fn equal(a: State, b: State) -> bool {
-    a.c == b.c && a.p == b.p
-}
-
 // Whether the tick of one state under a mask gives another.
 fn leads(t: Table, from: State, mask: u8, to: State) -> bool {
     let ticked = from.tick(t, mask);
-    matches!(ticked.answer, TickAnswer::Next) && equal(ticked.state, to)
+    ticked.answer == Ok(Step::Next) && ticked.state == to
 }
 
 impl<'a> Columns<'a> {
@@ -80,7 +75,7 @@ impl<'a> Columns<'a> {
     fn is_led_to(&self, t: Table, i: usize, slot: Slot) -> bool {
         let state = tick::of_bytes(slot.state);
         if i == 0 {
-            return slot.parent == 0 && slot.mask == 0 && equal(State::start(), state);
+            return slot.parent == 0 && slot.mask == 0 && state == State::start();
         }
         self.states
             .iter()

@@ -1,9 +1,9 @@
 // Cuts: of tables, of states and lists, of sheets as a C program makes them, and of what is played.
 use crate::body::Body;
+use crate::sheet::Accepted;
 use crate::space;
-use crate::text::{Hex, Refused, Shown};
+use crate::text::{Hex, Shown};
 use std::io;
-use tasks::Reading;
 
 // The longest list that is cut.
 const LONGEST: usize = 256;
@@ -11,7 +11,10 @@ const LONGEST: usize = 256;
 // Kind a, a table and k: the cut table, or its refusal.
 pub fn of_table(rt: &impl Print, mut body: Body) -> io::Result<()> {
     let t = body.table();
-    println!(rt; "cut{}", Shown(cut::cut_table(t, body.byte())))
+    println!(rt;
+        "cut{}",
+        Shown(cut::cut_table(t, body.byte()).map(Accepted))
+    )
 }
 
 // Masks cut to k, in a space. Of a list that is too long the front, which is not cut.
@@ -54,13 +57,7 @@ pub fn of_list(rt: &impl Print, mut body: Body) -> io::Result<()> {
     let t = body.table();
     let k = body.byte();
     let masks = body.rest();
-    let part = cut::cut_table(t, k);
     print!(rt; "whole{} part", Shown(tasks::replay(t, masks)))?;
-    match part.answer {
-        Reading::Accepted => {
-            let list = list(masks, k, &mut space);
-            println!(rt; "{}", Shown(tasks::replay(part.table, list)))
-        }
-        Reading::Refused(r) => println!(rt; "{}", Refused(r)),
-    }
+    let part = cut::cut_table(t, k).map(|part| tasks::replay(part, list(masks, k, &mut space)));
+    println!(rt; "{}", Shown(part))
 }

@@ -1,23 +1,20 @@
 // Files of states, judged as evidence of Safe.
 use crate::body::Body;
-use crate::text::{Refused, Shown};
-use closed::ClosedAnswer;
+use crate::text::Shown;
 use std::{fmt, io};
+use tasks::Refusal;
 
-impl fmt::Display for Shown<ClosedAnswer> {
+// Whether a file is accepted.
+impl fmt::Display for Shown<bool> {
     fn fmt<W: fmt::Write>(&self, f: &mut fmt::Formatter<W>) -> fmt::Result {
-        match self.0 {
-            ClosedAnswer::Accepted => write!(f, " accepted"),
-            ClosedAnswer::No => write!(f, " no"),
-            ClosedAnswer::Refused(r) => write!(f, "{}", Refused(r)),
-        }
+        f.write_str(if self.0 { " accepted" } else { " no" })
     }
 }
 
 // How a file is judged for a sheet, and the number that the call for C programs returns.
 #[derive(Clone, Copy)]
 pub struct Judged {
-    answer: ClosedAnswer,
+    answer: Result<bool, Refusal>,
     number: u64,
 }
 

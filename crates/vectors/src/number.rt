@@ -1,16 +1,13 @@
 // Sheet numbers.
 use crate::body::Body;
-use crate::text::{Refused, Shown};
+use crate::text::Shown;
 use std::{fmt, io};
-use tasks::Number;
 
-// A number and the place after it, or its refusal.
-impl fmt::Display for Shown<Number> {
+// A number and the place after it.
+impl fmt::Display for Shown<(usize, usize)> {
     fn fmt<W: fmt::Write>(&self, f: &mut fmt::Formatter<W>) -> fmt::Result {
-        match self.0 {
-            Number::Value(value, next) => write!(f, " {value} {next}"),
-            Number::Refused(r) => write!(f, "{}", Refused(r)),
-        }
+        let (value, next) = self.0;
+        write!(f, " {value} {next}")
     }
 }
 

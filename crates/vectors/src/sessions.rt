@@ -1,36 +1,45 @@
 // Sessions: lists of calls, by value and as a C program makes them. A call is two bytes, which call it is and its
 // mask or mark.
 use crate::body::Body;
-use crate::text::{Hex, Refused, Shown};
+use crate::text::{Hex, Shown};
 use crate::tick;
-use session::{Call, Session, SessionAnswer};
+use session::{Call, Session};
 use std::{fmt, io};
-use tasks::Table;
+use tasks::{State, Step, Table};
+
+// A session, and the states of its marks that are not set.
+#[derive(Clone, Copy)]
+pub struct Kept {
+    pub session: Session,
+    pub unset: [State; 8],
+}
 
 // The bytes of a session, those of marks that are not set too.
-impl fmt::Display for Shown<Session> {
+impl fmt::Display for Shown<Kept> {
     fn fmt<W: fmt::Write>(&self, f: &mut fmt::Formatter<W>) -> fmt::Result {
-        let x = self.0;
-        let flags = x.marks.iter().rev().fold(
+        let Kept { session, unset } = self.0;
+        let flags = session.marks.iter().rev().fold(
             0u8,
-            |flags, mark| flags.wrapping_mul(2) | u8::from(mark.set),
+            |flags, mark| flags.wrapping_mul(2) | u8::from(mark.is_some()),
         );
-        write!(f, " {flags:02x}{}", Hex(&tick::to_bytes(x.present)))?;
-        for mark in &x.marks {
-            write!(f, "{}", Hex(&tick::to_bytes(mark.state)))?;
+        write!(f, " {flags:02x}{}", Hex(&tick::to_bytes(session.present)))?;
+        for (mark, unset) in session.marks.iter().zip(&unset) {
+            write!(f, "{}", Hex(&tick::to_bytes(mark.unwrap_or(*unset))))?;
         }
         Ok(())
     }
 }
 
-// What a call on marks answers.
-impl fmt::Display for Shown<SessionAnswer> {
+// What a call on marks answers: done or missed.
+#[derive(Clone, Copy)]
+struct Done(Step);
+
+impl fmt::Display for Shown<Done> {
     fn fmt<W: fmt::Write>(&self, f: &mut fmt::Formatter<W>) -> fmt::Result {
-        match self.0 {
-            SessionAnswer::Done => write!(f, " done"),
-            SessionAnswer::Missed => write!(f, " missed"),
-            SessionAnswer::Refused(n) => write!(f, "{}", Refused(n)),
-        }
+        f.write_str(match self.0.0 {
+            Step::Next => " done",
+            Step::Missed => " missed",
+        })
     }
 }
 
@@ -55,19 +64,21 @@ fn call(rt: &impl Print, t: Table, x: Session, call: Call) -> io::Result<Session
         Call::SetMark(mark) => x.set_mark(t, mark),
         Call::ReturnTo(mark) => x.return_to(t, mark),
     };
-    print!(rt; "{}", Shown(called.answer))?;
+    print!(rt; "{}", Shown(called.answer.map(Done)))?;
     Ok(called.session)
 }
 
 // Kind x, a table, a session and calls: what each answers, and the session after them.
 pub fn calls(rt: &impl Print, mut body: Body) -> io::Result<()> {
     let t = body.table();
-    let mut x = body.session();
+    let Kept { session, unset } = body.session();
+    let mut session = session;
     print!(rt; "session")?;
     let (calls, _) = body.rest().as_chunks();
     for bytes in calls {
-        x = call(rt, t, x, call_of(*bytes))?;
+        session = call(rt, t, session, call_of(*bytes))?;
     }
+    let x = Kept { session, unset };
     println!(rt; "{}", Shown(x))
 }
 

@@ -1,20 +1,23 @@
 // Sheets that are read.
 use crate::body::Body;
-use crate::text::{Refused, Shown};
+use crate::text::Shown;
 use std::{fmt, io};
-use tasks::{Reading, Sheet};
+use tasks::Table;
 
-// A table, or its refusal.
-impl fmt::Display for Shown<Sheet> {
+// The table of a sheet that is accepted.
+#[derive(Clone, Copy)]
+pub struct Accepted(pub Table);
+
+impl fmt::Display for Shown<Accepted> {
     fn fmt<W: fmt::Write>(&self, f: &mut fmt::Formatter<W>) -> fmt::Result {
-        match self.0.answer {
-            Reading::Accepted => write!(f, " accepted{}", Shown(self.0.table)),
-            Reading::Refused(r) => write!(f, "{}", Refused(r)),
-        }
+        write!(f, " accepted{}", Shown(self.0.0))
     }
 }
 
 // Kind s, a sheet: the table that it is read as, or its refusal.
 pub fn sheet(rt: &impl Print, body: Body) -> io::Result<()> {
-    println!(rt; "sheet{}", Shown(tasks::read_sheet(body.rest())))
+    println!(rt;
+        "sheet{}",
+        Shown(tasks::read_sheet(body.rest()).map(Accepted))
+    )
 }

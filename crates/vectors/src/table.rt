@@ -2,7 +2,7 @@
 use crate::body::Body;
 use crate::text::Shown;
 use std::{fmt, io};
-use tasks::Table;
+use tasks::{Refusal, Table};
 
 // Policy, m, n, then C, D, P of each of the eight entries.
 impl fmt::Display for Shown<Table> {
@@ -18,5 +18,6 @@ impl fmt::Display for Shown<Table> {
 
 // Kind t, a table: its refusal, and 0 for a valid one.
 pub fn table(rt: &impl Print, mut body: Body) -> io::Result<()> {
-    println!(rt; "table {}", body.table().fault())
+    let fault = body.table().check().map_or_else(Refusal::number, |()| 0);
+    println!(rt; "table {fault}")
 }

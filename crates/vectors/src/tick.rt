@@ -2,7 +2,7 @@
 use crate::body::Body;
 use crate::text::{Refused, Shown};
 use std::{array, fmt, io};
-use tasks::{Outcome, ReplayAnswer, Replayed, State, TickAnswer};
+use tasks::{Outcome, ReplayAnswer, Replayed, State, Step};
 
 // The state in 16 bytes: c and p of each of eight tasks.
 pub fn of_bytes(bytes: [u8; 16]) -> State {
@@ -27,13 +27,12 @@ impl fmt::Display for Shown<State> {
     }
 }
 
-impl fmt::Display for Shown<TickAnswer> {
+impl fmt::Display for Shown<Step> {
     fn fmt<W: fmt::Write>(&self, f: &mut fmt::Formatter<W>) -> fmt::Result {
-        match self.0 {
-            TickAnswer::Next => write!(f, " next"),
-            TickAnswer::Missed => write!(f, " missed"),
-            TickAnswer::Refused(r) => write!(f, "{}", Refused(r)),
-        }
+        f.write_str(match self.0 {
+            Step::Next => " next",
+            Step::Missed => " missed",
+        })
     }
 }
 

@@ -4,9 +4,9 @@ use crate::columns::Columns;
 use crate::files::Judged;
 use crate::space::Pattern;
 use crate::text::{Hex, Refused, Shown};
-use search::SearchAnswer;
+use search::Verdict;
 use std::{fmt, io};
-use tasks::Table;
+use tasks::{Refusal, Table};
 
 // What each byte of a space is more than the one before it, modulo 256.
 const STEP: u8 = 29;
@@ -56,12 +56,12 @@ impl Left<'_> {
     }
 }
 
-// Prints an answer and the fields that follow it: which slots are not as they have to be, the digest of the
+// Prints a verdict and the fields that follow it: which slots are not as they have to be, the digest of the
 // states, and what replaying the first l masks answers.
-fn print(rt: &impl Print, answer: SearchAnswer, t: Table, left: Left) -> io::Result<()> {
+fn print(rt: &impl Print, verdict: Verdict, t: Table, left: Left) -> io::Result<()> {
     let columns = Columns::of(left.work);
-    match answer {
-        SearchAnswer::Safe(n) => {
+    match verdict {
+        Verdict::Safe(n) => {
             let wrong = columns.wrong(t, n);
             println!(rt;
                 "search safe {n}{} wrong {wrong} digest {}",
@@ -69,7 +69,7 @@ fn print(rt: &impl Print, answer: SearchAnswer, t: Table, left: Left) -> io::Res
                 columns.digest(n)
             )
         }
-        SearchAnswer::Unsafe(l, n) => {
+        Verdict::Unsafe(l, n) => {
             let wrong = columns.wrong(t, n);
             let masks = left.trace.get(..l).unwrap_or(left.trace);
             let replay = Shown(tasks::replay(t, masks).answer);
@@ -79,22 +79,21 @@ fn print(rt: &impl Print, answer: SearchAnswer, t: Table, left: Left) -> io::Res
                 columns.digest(n)
             )
         }
-        SearchAnswer::NoRoom(k) => {
+        Verdict::NoRoom(k) => {
             println!(rt;
                 "search room {k}{} wrong {}",
                 left.changed(k, 0),
                 columns.wrong(t, k)
             )
         }
-        SearchAnswer::Refused(r) => println!(rt; "search{}{}", Refused(r), left.changed(0, 0)),
     }
 }
 
 // How many slots a search wrote.
-fn count_of(answer: SearchAnswer) -> usize {
+fn count_of(answer: Result<Verdict, Refusal>) -> usize {
     match answer {
-        SearchAnswer::Safe(n) | SearchAnswer::Unsafe(_, n) | SearchAnswer::NoRoom(n) => n,
-        SearchAnswer::Refused(_) => 0,
+        Ok(Verdict::Safe(n) | Verdict::Unsafe(_, n) | Verdict::NoRoom(n)) => n,
+        Err(_) => 0,
     }
 }
 
@@ -125,14 +124,17 @@ where
 // Kind v: the answer of the search, and what it leaves in the spaces.
 pub fn search(rt: &impl Print, body: Body) -> io::Result<()> {
     lend(body, |sheet, work, trace, pattern| {
+        let read = tasks::read_sheet(sheet);
         let answer = search::search_sheet(sheet, work, trace);
-        let t = tasks::read_sheet(sheet).table;
         let left = Left {
             work,
             trace,
             pattern,
         };
-        print(rt, answer, t, left)
+        match read.and_then(|t| answer.map(|verdict| (t, verdict))) {
+            Ok((t, verdict)) => print(rt, verdict, t, left),
+            Err(r) => println!(rt; "search{}{}", Refused(r), left.changed(0, 0)),
+        }
     })
 }
 
