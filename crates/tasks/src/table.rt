@@ -9,7 +9,7 @@ use crate::widths::wide;
 pub(crate) const LAST_POLICY: usize = 4;
 
 // A table in memory: policy, processors, tasks, and for each of eight tasks its work C, deadline D and least gap P.
-#[derive(Clone, Copy)]
+#[derive(Clone, Copy, Debug, PartialEq, Eq)]
 pub struct Table {
     pub policy: u8,
     pub m: u8,
