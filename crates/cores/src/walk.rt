@@ -30,7 +30,7 @@ fn below(places: [u16; 8], x: u16) -> [u16; 8]
 fn above(place: u16) -> u16
     ensures { result ≡ capped place + 1 }
 {
-    if place < 65535 { place + 1 } else { 65535 }
+    place.saturating_add(1)
 }
 
 // Whether a task with place y and number k goes before one with place x and number i. In this form a rank takes the compiler one comparison.
@@ -132,7 +132,7 @@ pub fn assign(places: [u16; 8], m: u16) -> [u16; 8]
     let ranks = ranks_singly(places);
     let ready = count_below(places, 65534);
     let mut walk = assign_kept(places, m);
-    while (walk.count < m) & (walk.count < ready) {
+    while walk.count < m && walk.count < ready {
         walk = assign_next(places, ranks, m, walk);
     }
     walk.run

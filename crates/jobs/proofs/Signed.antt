@@ -3,7 +3,7 @@ use Rattle.std.proofs.Common.{◌≡◌, ℕ, zero, suc, ◌+◌, ◌-◌, ◌^�
 use native.Mathlib.Decide.{dec_lt}
 use lib.IntN.{sub_ℕ}
 use lib.Signed.{lt_z, mag}
-use mir.ValLaws.{to_z_pos, to_z-of_z}
+use mir.ValLaws.{to_z-of_z}
 use Rattle.jobs.specs.Job.{time_left, slack}
 
 pub by_lt : {X : Type 0} (a b : ℕ) → (a < b → X) → (b ≤ a → X) → X
@@ -72,9 +72,6 @@ pub lt_z_zero : (a b : ℕ) → lt_z (sub_ℕ a b) (pos 0) ≡ ltb a b
 lt_z_zero a b = lt_z_sub a b 0 0 ∙ ltb_same (a + 0) (0 + b) a b (λ q. omega arith) (λ q. omega arith)
 
 -- ---- at sixteen bits
-
-pub byte : {x : ℕ} → Fits w8 x → to_z w16 x ≡ pos x
-byte {x} f = to_z_pos w16 x (omega arith)
 
 pub fits_sub : (a b : ℕ) → a < 32768 → b ≤ 32768 → SFits w16 (sub_ℕ a b)
 fits_sub a b ha hb = record { sfits = mag_sub a b 32768 ha hb }

@@ -6,21 +6,21 @@ ghost use Rattle.jobs.specs.Job.{age, time_left, slack, late_job, job_key, job_a
 fn age(gap: u8, p: u8) -> i16
     ensures { result ≡ age gap p }
 {
-    (gap as i16) - (p as i16)
+    i16::from(gap) - i16::from(p)
 }
 
 // The time left, D - (P - p).
 fn time_left(deadline: u8, gap: u8, p: u8) -> i16
     ensures { result ≡ time_left deadline gap p }
 {
-    (deadline as i16) - age(gap, p)
+    i16::from(deadline) - age(gap, p)
 }
 
 // The slack: the time left less the work left.
 pub fn slack_of(deadline: u8, gap: u8, p: u8, c: u8) -> i16
     ensures { result ≡ slack deadline gap p c }
 {
-    time_left(deadline, gap, p) - (c as i16)
+    time_left(deadline, gap, p) - i16::from(c)
 }
 
 // Whether a job with c work left is late.

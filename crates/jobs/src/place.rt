@@ -23,7 +23,7 @@ pub fn base_of(policy: u8, deadline: u8, gap: u8) -> u16
     if policy < 2 {
         return 255;
     }
-    std::num::wrapping_sub_u16(256 * (deadline as u16) + 255, 257 * (gap as u16))
+    (256 * u16::from(deadline) + 255).wrapping_sub(257 * u16::from(gap))
 }
 
 // 255 where the policy goes by the ticks until the next release.
@@ -44,6 +44,6 @@ pub fn work_mask(policy: u8) -> u16
 pub fn moved(bygap: u16, bywork: u16, base: u16, w: u16) -> u16
     ensures { result ≡ moved bygap bywork base (w / 256) (w % 256) }
 {
-    let down = std::num::wrapping_sub_u16(base, (w % 256 & bywork) * 256);
-    std::num::wrapping_add_u16((w / 256 & bygap) * 257, down)
+    let down = base.wrapping_sub((w % 256 & bywork) * 256);
+    ((w / 256 & bygap) * 257).wrapping_add(down)
 }

@@ -1,20 +1,16 @@
-use Prim.Native.Nat.{ℕ, ◌+◌, ◌≤◌, ◌<◌}
-use mathlib.Core.Path.{◌≡◌}
+use Rattle.std.proofs.Common.{ℕ, ◌≡◌, ◌+◌, ◌-◌, ◌^◌, min, arith}
 use lib.Dec.{ltb}
-use borrow.Author.Tests.{ltb-false, le-ltb}
+use borrow.Author.Tests.{ltb-true, ltb-false}
 use Rattle.lists.proofs.Bools.{by_bool}
 use Rattle.cores.specs.Walk.{capped}
-use native.Mathlib.Omega.{arith}
 use Rattle.cores.proofs.walk.above.Goals as goal
 
-some : (x : ℕ) → x < 65535 → x + 1 ≡ capped x + 1
-some x h = by_bool (ltb x 65534) (λ e. rw e) (λ e. rw e (omega (arith, ltb-false x 65534 e)))
+-- the two of no job are alike
+one_more : (y : ℕ) → min (y + 1) (2 ^ 16 - 1) ≡ capped y + 1
+one_more y =
+    by_bool (ltb y 65534)
+    (λ e. rw e (omega (arith, ltb-true y 65534 e)))
+    (λ e. rw e (omega (arith, ltb-false y 65534 e)))
 
-none : (x : ℕ) → 65535 ≤ x → 65535 ≡ capped x + 1
-none x h = rw (le-ltb x 65534 (omega arith))
-
-pub returns-then-place-lt65535 : goal.returns-then-place-lt65535
-returns-then-place-lt65535 c = some c.args.place c.if-place-lt65535.true
-
-pub returns-else-place-lt65535 : goal.returns-else-place-lt65535
-returns-else-place-lt65535 c = none c.args.place c.if-place-lt65535.false
+pub returns : goal.returns
+returns c = rw c.saturating_add.ensures (one_more c.args.place)
