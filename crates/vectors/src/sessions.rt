@@ -3,33 +3,26 @@
 ghost use Rattle.std.specs.Prelude.{◌<◌, ◌≤◌};
 
 use crate::{space, table, text, tick};
-use session::{Called, Mark, Session, SessionAnswer, Stepped};
-use std::io;
+use session::{Called, Session, SessionAnswer, Stepped};
+use std::{array, io};
 use tasks::{State, Table, TickAnswer};
 
 // How many bytes a session has in a body: flags, the present state, and the states of the marks.
 const LENGTH: usize = 145;
 
-// The ith mark of a session in a body, with its state also where it is not set.
-fn mark_of(b: &[u8], i: usize) -> Mark
-    requires { i < 8 }
-{
-    let set = tasks::has_bit(text::byte(b, 0), i);
-    let state = tick::of_body(text::rest(b, 17 + 16 * i));
-    Mark { set, state }
+// The states in the bytes of the marks, those of marks that are not set too.
+fn states_of(b: &[u8]) -> [State; 8] {
+    array::from_fn(|i| tick::of_body(text::rest(b, 17 + 16 * i)))
 }
 
 // The session at the front of a body.
 fn of_body(b: &[u8]) -> Session {
-    let present = tick::of_body(text::rest(b, 1));
-    let fresh = Session::fresh();
-    let mut marks = fresh.marks;
-    let mut i: usize = 0;
-    while i < 8 {
-        marks[i] = mark_of(b, i);
-        i += 1;
+    let flags = text::byte(b, 0);
+    let states = states_of(b);
+    Session {
+        present: tick::of_body(text::rest(b, 1)),
+        marks: array::from_fn(|i| tasks::has_bit(flags, i).then_some(states[i])),
     }
-    Session { present, marks }
 }
 
 // Prints the bytes of a state.
@@ -46,10 +39,13 @@ fn print_state(rt: &impl Print, s: State) -> io::Result<()> {
 }
 
 // The number of four flags, the first the lowest.
-fn four_flags(a: Mark, b: Mark, c: Mark, d: Mark) -> usize
+fn four_flags(a: Option<State>, b: Option<State>, c: Option<State>, d: Option<State>) -> usize
     ensures { result ≤ 15 }
 {
-    text::one(a.set) + 2 * text::one(b.set) + 4 * text::one(c.set) + 8 * text::one(d.set)
+    text::one(a.is_some())
+        + 2 * text::one(b.is_some())
+        + 4 * text::one(c.is_some())
+        + 8 * text::one(d.is_some())
 }
 
 // Prints the flags of eight marks.
@@ -60,17 +56,13 @@ fn print_flags(rt: &impl Print, x: Session) -> io::Result<()> {
     text::digits(rt, (low + 16 * high) as u8)
 }
 
-// Prints the bytes of a session, those of marks that are not set too.
-fn print(rt: &impl Print, x: Session) -> io::Result<()> {
+// Prints the bytes of a session; those of a mark that is not set are the ones given.
+fn print(rt: &impl Print, x: Session, unset: [State; 8]) -> io::Result<()> {
     text::put(rt, b" ")?;
     print_flags(rt, x)?;
     print_state(rt, x.present)?;
-    let marks = x.marks;
-    let mut i: usize = 0;
-    while i < 8 {
-        let mark = marks[i];
-        print_state(rt, mark.state)?;
-        i += 1;
+    for (mark, state) in x.marks.iter().zip(unset.iter()) {
+        print_state(rt, mark.unwrap_or(*state))?;
     }
     Ok(())
 }
@@ -114,7 +106,8 @@ fn call(rt: &impl Print, t: Table, x: Session, which: u8, number: u8) -> io::Res
 // Kind x, a table, a session and calls: what each answers, and the session after them.
 pub fn calls(rt: &impl Print, body: &[u8]) -> io::Result<()> {
     let t = table::of_body(body);
-    let mut x = of_body(text::rest(body, table::LENGTH));
+    let bytes = text::rest(body, table::LENGTH);
+    let mut x = of_body(bytes);
     let list = text::rest(body, table::LENGTH + LENGTH);
     text::put(rt, b"session")?;
     let mut i: usize = 0;
@@ -128,7 +121,7 @@ pub fn calls(rt: &impl Print, body: &[u8]) -> io::Result<()> {
         )?;
         i += 1;
     }
-    print(rt, x)?;
+    print(rt, x, states_of(bytes))?;
     text::end(rt)
 }
 

@@ -1,9 +1,0 @@
--- `vectors::sessions::of_body` is safe and ends. The loop's invariant: `i` is at most 8. The measure is what is left of it. Assumes nothing.
-use Rattle.std.proofs.Common.{◌-◌, ◌≤◌}
-use Rattle.vectors.proofs.sessions.of_body.Given as goal
-
-abbrev pub invariant-loop-i : goal.invariant-loop-i
-invariant-loop-i l = l.i ≤ 8
-
-abbrev pub decreases-loop-i : goal.decreases-loop-i
-decreases-loop-i l = 8 - l.i
