@@ -14,7 +14,7 @@ pub(crate) struct Task {
 pub(crate) fn drawn(s: u16) -> u16
     ensures { result ≡ drawn s }
 {
-    ((25173 * (s as u32) + 13849) % 65536) as u16
+    ((25173 * u32::from(s) + 13849) % 65536) as u16
 }
 
 // The task of three draws: P by the first, D by the second, C by the third.

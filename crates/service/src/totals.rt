@@ -38,13 +38,6 @@ pub(crate) fn raised(numbers: [u64; 8], tasks: [bool; 8]) -> [u64; 8]
     array::from_fn(|i| numbers[i] + u64::from(tasks[i]))
 }
 
-// Bytes as wider numbers.
-fn widened(c: [u8; 8]) -> [u64; 8]
-    ensures { result ≡ c }
-{
-    array::from_fn(|i| u64::from(c[i]))
-}
-
 // An answer with the state beside it, and the totals: the work left is that of the state.
 pub(crate) fn account_of(
     answer: ReplayAnswer,
@@ -54,13 +47,12 @@ pub(crate) fn account_of(
 ) -> Account
     ensures { result ≡ account_from (record { answer = answer; state = state }) releases ran }
 {
-    let left = widened(state.c);
     Account {
         replayed: Replayed { answer, state },
         totals: Totals {
             releases,
             ran,
-            left,
+            left: state.c.map(u64::from),
         },
     }
 }
