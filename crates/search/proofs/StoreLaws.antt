@@ -195,9 +195,6 @@ module _ {t : Table} {K : ℕ} {w heads : List ℕ} {n i : ℕ} (ready : RowRead
                 };
           })
 
-      pub row_falls : m < follows free m
-      row_falls = let f = next_submask free m small b (x.is b) in omega (arith, f.up)
-
     pub row_end : 256 ≤ m → RowDone t K w w₁ heads₁ n n₁ i
     row_end h =
         record {

@@ -11,10 +11,7 @@ use tasks::{Table, Ticker, misses, tight};
 fn has_miss(t: Table, ticker: Ticker, v: [u16; 8]) -> bool
     ensures { result ≡ miss_by t ticker v }
 {
-    if tight(t, v) {
-        return full_misses(t, ticker, v);
-    }
-    false
+    tight(t, v) && full_misses(t, ticker, v)
 }
 
 // Tries the slots of the level for a miss, and of a slot that has one the legal masks in increasing order: the slot and the mask that misses from it.

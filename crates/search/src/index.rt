@@ -37,8 +37,7 @@ pub(crate) fn holds(work: &[u8], heads: &[u32], k: usize, n: usize, v: [u16; 8])
         return false;
     }
     let mut cur = (head % 1048576) as usize;
-    while 0 < cur {
-        let j = cur - 1;
+    while let Some(j) = cur.checked_sub(1) {
         if key_in(work, j) == key {
             return true;
         }

@@ -19,7 +19,7 @@ pub enum SearchAnswer {
 
 // How the levels end: with a slot, a mask that misses from it, the number of masks that lead to it and that of slots filled;
 // with all states in that many slots; or with every slot filled, and a state more.
-#[derive(Clone, Copy)]
+#[derive(Clone, Copy, Debug, PartialEq, Eq)]
 pub(crate) enum End {
     Missed(usize, u8, usize, usize),
     Closed(usize),
@@ -38,8 +38,7 @@ pub(crate) fn run_levels(
     requires { (ticker ≡ ticker_of t) × Fresh t k ends.old work.old heads.old }
     ensures { RanBy t k ends.new work.old work.new result }
 {
-    let start = [0u16; 8];
-    push(work, heads, k, 0, start, 0, 0);
+    push(work, heads, k, 0, [0; 8], 0, 0);
     let mut lo: usize = 0;
     let mut hi: usize = 1;
     let mut d: usize = 0;

@@ -14,8 +14,7 @@ use tasks::{Reading, Table};
 fn slots_in(length: usize) -> usize
     ensures { result ≡ min (length / 21) 1000000 }
 {
-    let k = length / 21;
-    if 1000000 < k { 1000000 } else { k }
+    (length / 21).min(1000000)
 }
 
 // How many of k slots are written where the levels ended so.

@@ -4,7 +4,7 @@ ghost use Rattle.std.specs.Iterator.{at_most};
 ghost use Rattle.states.specs.Masks.{next_mask, follows, place, AtMask, Steps};
 
 // A walk through the submasks of free, the legal masks of a state, with the mask that comes next.
-#[derive(Clone, Copy, Debug, Drop)]
+#[derive(Clone, Debug, Drop)]
 pub struct Masks {
     free: u8,
     next: Option<u8>,

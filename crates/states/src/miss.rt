@@ -10,8 +10,5 @@ use tasks::{Table, Ticker, misses};
 pub fn full_misses(t: Table, ticker: Ticker, v: [u16; 8]) -> bool
     ensures { result ≡ full_by t ticker v }
 {
-    let free = ticker.free(v);
-    let state = ticker.prepare(v);
-    let full = ticker.after(state, free);
-    misses(t, full)
+    misses(t, ticker.after(ticker.prepare(v), ticker.free(v)))
 }

@@ -22,35 +22,37 @@ returns-then-head-tag_bit-eq0 c =
 pub overflow_cast-cur : goal.overflow_cast-cur
 overflow_cast-cur c = omega arith
 
-pub loop-cur-init : goal.loop-cur-init
+pub loop-j-init : goal.loop-j-init
 unfolding newest
-loop-cur-init c = rw c.bucket-b.ensures.0 (walk_start (keyed c.requires) c.key_of-key.result)
+loop-j-init c = rw c.bucket-b.ensures.0 (walk_start (keyed c.requires) c.key_of-key.result)
 
 pub returns-then-eq : goal.returns-then-eq
 returns-then-eq c =
     let e = keys_same _ _ (sym (c.eq.ensures ∙ keys_eq _ _) ∙ c.if-eq.true) in
     held _ (state_of c.args.v) c.type_inv.work (let it : Bytes (state_of c.args.v) = word_bytes c.args.v (λ k b. search rules) in it)
-    (record { place = c.loop-cur.cur - 1; below = omega (arith, c.loop-cur.invariant.low); same = sym c.key_in.ensures ∙ e ∙ c.key_of-key.ensures })
+    (record { place = c.in-Some.j; below = omega (arith, c.loop-j.invariant.low, c.in-Some.ensures); same = sym c.key_in.ensures ∙ e ∙ c.key_of-key.ensures })
 
 pub link_of-cur-requires : goal.link_of-cur-requires
 link_of-cur-requires c =
     let x = c.requires in
     let h = x.room in
-    (omega (arith, c.loop-cur.invariant.low), x.fits)
+    (omega (arith, c.loop-j.invariant.low), x.fits)
 
-pub loop-cur-smaller : goal.loop-cur-smaller
-loop-cur-smaller c =
-    rw c.link_of-cur.ensures (walk_falls (keyed c.requires) c.key_of-key.result c.loop-cur.cur (omega arith) c.loop-cur.invariant)
+pub loop-j-smaller : goal.loop-j-smaller
+loop-j-smaller c =
+    let j : c.in-Some.j ≡ c.loop-j.cur - 1 = omega (arith, c.in-Some.ensures) in
+    rw (c.link_of-cur.ensures, j) (walk_falls (keyed c.requires) c.key_of-key.result c.loop-j.cur (omega arith) c.loop-j.invariant)
 
-pub loop-cur-preserved : goal.loop-cur-preserved
-loop-cur-preserved c =
+pub loop-j-preserved : goal.loop-j-preserved
+loop-j-preserved c =
+    let j : c.in-Some.j ≡ c.loop-j.cur - 1 = omega (arith, c.in-Some.ensures) in
     let differ = keys_differ _ _ (sym (c.eq.ensures ∙ keys_eq _ _) ∙ c.if-eq.false) in
-    rw c.link_of-cur.ensures
-    (walk_next (keyed c.requires) c.key_of-key.result c.loop-cur.cur (omega arith) c.loop-cur.invariant
-    (λ q. differ (c.key_in.ensures ∙ q)))
+    rw (c.link_of-cur.ensures, j)
+    (walk_next (keyed c.requires) c.key_of-key.result c.loop-j.cur (omega arith) c.loop-j.invariant
+    (λ q. differ (c.key_in.ensures ∙ rw j q)))
 
 pub returns : goal.returns
 returns c =
-    let e : c.loop-cur.cur ≡ 0 = omega arith in
-    let none = rw c.key_of-key.ensures at (walk_end (rw e at c.loop-cur.invariant)) in
+    let e : c.loop-j.cur ≡ 0 = omega arith in
+    let none = rw c.key_of-key.ensures at (walk_end (rw e at c.loop-j.invariant)) in
     λ h. none (held_key _ _ h)

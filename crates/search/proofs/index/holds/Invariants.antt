@@ -5,8 +5,8 @@ use Rattle.states.specs.Keys.{key_in}
 use Rattle.search.specs.Indexed.{bucket_for}
 use Rattle.search.proofs.index.holds.Given as goal
 
-abbrev pub invariant-loop-cur : goal.invariant-loop-cur
-invariant-loop-cur l = Walk (bucket_for (length l.heads)) (key_in l.work) l.n l.key l.cur
+abbrev pub invariant-loop-j : goal.invariant-loop-j
+invariant-loop-j l = Walk (bucket_for (length l.heads)) (key_in l.work) l.n l.key l.cur
 
-abbrev pub decreases-loop-cur : goal.decreases-loop-cur
-decreases-loop-cur l = l.cur
+abbrev pub decreases-loop-j : goal.decreases-loop-j
+decreases-loop-j l = l.cur

@@ -4,4 +4,4 @@ use Rattle.states.proofs.miss.full_misses.Goals as goal
 
 pub returns : goal.returns
 unfolding full_by
-returns c = rw (c.after-full.ensures, c.prepare-state.ensures, c.free-free.ensures) at c.misses.ensures
+returns c = rw (c.after.ensures, c.prepare.ensures, c.free.ensures) at c.misses.ensures
