@@ -15,5 +15,5 @@ returns c =
     elim c.loop-walk-test.branch [
       | then-loop-walk-test+else-walk-ready w ↦
           walk_all a.places a.m l.invariant.0 (omega (arith, l.invariant.1, w.if-walk-ready.false)) (omega (arith, w.loop-walk-test.true))
-      | else-loop-walk-test w ↦ walk_full a.places a.m l.invariant.0 w.loop-walk-test.false
+      | else-loop-walk-test w ↦ walk_full a.places a.m l.invariant.0 (omega (arith, w.loop-walk-test.false))
     ]
