@@ -178,14 +178,14 @@ fn rows_inside(
     let mut count: usize = 0;
     for row in 0..n {
         count = row_pending(t, ticker, file, &mut pending, count, n, split, pass, row);
-        if 64 <= count {
+        if (64 <= count) | (row + 1 == n) {
             if !all_held(file, cells, n, &pending, count) {
                 return false;
             }
             count = 0;
         }
     }
-    all_held(file, cells, n, &pending, count)
+    true
 }
 
 // Puts state i into the cells, where the pass may look it up.

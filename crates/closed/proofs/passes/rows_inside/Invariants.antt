@@ -1,5 +1,5 @@
 -- The invariant: the pairs due of the states passed lead to states of the file where the keys that wait are held. Assumes nothing.
-use Prim.Native.Nat.{◌<◌}
+use Prim.Native.Nat.{◌<◌, ◌≤◌}
 use mathlib.Core.Path.{◌≡◌}
 use lib.ListN.{length}
 use Rattle.closed.proofs.InsideLaws.{RowsTo}
@@ -7,4 +7,4 @@ use Rattle.closed.proofs.PendingLaws.{Waiting}
 use Rattle.closed.proofs.passes.rows_inside.Given as goal
 
 abbrev pub invariant-loop-row : goal.invariant-loop-row
-invariant-loop-row l = (length l.pending ≡ 1280) × (l.count < 64) × Waiting l.t l.file l.n (RowsTo l.t l.file l.split l.pass l.row) l.pending l.count
+invariant-loop-row l = (length l.pending ≡ 1280) × (l.count < 64) × (l.n ≤ l.row → l.count ≡ 0) × Waiting l.t l.file l.n (RowsTo l.t l.file l.split l.pass l.row) l.pending l.count
