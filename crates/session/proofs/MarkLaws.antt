@@ -2,11 +2,11 @@
 use Prim.Native.Nat.{ℕ, ◌+◌, ◌-◌, ◌≤◌}
 use mathlib.Core.Path.{◌≡◌, refl, sym, ap, ◌∙◌}
 use mathlib.Core.Bool.{Bool, true, false}
-use mathlib.Core.List.{List, map}
+use mathlib.Core.List.{List}
 use native.Mathlib.Omega.{arith}
 use native.Mathlib.Decide.{ℕ_discrete}
 use lib.Dec.{eqb, ltb}
-use lib.ListN.{length, get_or, set, length-set, length-map}
+use lib.ListN.{length, get_or, set, length-set}
 use lib.Seq.{ext_get_or, get_or-set_same, get_or-set_other}
 use borrow.Author.Tests.{ltb-true, ltb-false, eq-eqb, ne_eqb}
 use Rattle.std.specs.Prelude.{Option, Some, None, is_some, IfSome, MatchOption}
@@ -27,10 +27,6 @@ within k e = (omega (arith, ltb-false k 1 (nor_left (ltb k 1) (ltb 8 k) e)), ome
 pub without : {X : Type 0} (k : ℕ) → outside k ≡ true → 1 ≤ k → k ≤ 8 → X
 without k e low high =
     absurd (or_cases (ltb k 1) (ltb 8 k) e (λ h. omega (arith, ltb-true k 1 h)) (λ _ h. omega (arith, ltb-true 8 k h)))
-
--- what an array of structs tells of its length, for `search`
-pub length_mapped : (X Y : Type 0) (f : X → Y) (l : List X) (n : ℕ) → length (map f l) ≡ n → length l ≡ n
-length_mapped X Y f l n e = sym (length-map l f) ∙ e
 
 -- by what is stored
 pub by_stored : {X : Type 0} (o : Option State) → (o ≡ None → X) → ((s : State) → o ≡ Some s → X) → X
