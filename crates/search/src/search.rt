@@ -7,6 +7,7 @@ ghost use Rattle.search.specs.Keeping.{written_by, Fresh, RanBy, Lent, Finishing
 
 use crate::outcome::report;
 use crate::run::{End, SearchAnswer, run_levels};
+use crate::ticked::Ticking;
 use slots::settle;
 use tasks::{Reading, Table};
 
@@ -33,8 +34,11 @@ fn search_levels(t: Table, work: &mut [u8], heads: &mut [u32], ends: &mut [u32],
     requires { Fresh t k ends.old work.old heads.old }
     ensures { RanBy t k ends.new work.old work.new result }
 {
-    let ticker = t.ticker();
-    run_levels(t, ticker, work, heads, ends, k)
+    let ticking = Ticking {
+        table: t,
+        ticker: t.ticker(),
+    };
+    run_levels(ticking, work, heads, ends, k)
 }
 
 // Writes the parents in the place of the words, and reports. It stands apart from the levels: with the last pass in line, their loops took up to a
