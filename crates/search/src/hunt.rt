@@ -14,7 +14,8 @@ fn has_miss(t: Table, ticker: Ticker, v: [u16; 8]) -> bool
     tight(t, v) && full_misses(t, ticker, v)
 }
 
-// Tries the slots of the level for a miss, and of a slot that has one the legal masks in increasing order: the slot and the mask that misses from it.
+// Tries the slots of the level for a miss, and of a slot that has one the legal masks in increasing order. Answers that slot and the first
+// mask that misses from it.
 pub(crate) fn hunt(ticking: Ticking, work: &[u8], lo: usize, hi: usize) -> Option<(usize, u8)>
     requires { (lo ≤ hi) × Level ticking.table work.now hi }
     ensures { HuntIs ticking.table work.now lo hi result }

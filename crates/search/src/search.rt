@@ -41,8 +41,8 @@ fn search_levels(t: Table, work: &mut [u8], heads: &mut [u32], ends: &mut [u32],
     run_levels(ticking, work, heads, ends, k)
 }
 
-// Writes the parents in the place of the words, and reports. It stands apart from the levels: with the last pass in line, their loops took up to a
-// tenth longer.
+// Writes the parents in the place of the words, and reports. It stands apart from the levels: with the last pass in line, their loops took
+// up to a tenth longer.
 fn finish(work: &mut [u8], trace: &mut [u8], ends: &[u32], k: usize, end: End) -> SearchAnswer
     requires { Finishing k ends.now work.old trace.old end }
     ensures { Finished k ends.now work.old work.new trace.old trace.new end result }
@@ -52,8 +52,8 @@ fn finish(work: &mut [u8], trace: &mut [u8], ends: &[u32], k: usize, end: End) -
     report(work, trace, k, end)
 }
 
-// The search with this many heads on the stack. It is kept out of line, so that each number of heads stands in a frame of its own and a small
-// work space does not pay a large one's stack.
+// The search with this many heads on the stack. It is kept out of line, so that each number of heads stands in a frame of its own and a
+// small work space does not pay a large one's stack.
 #[inline(never)]
 fn search_with<const HEADS: usize>(
     t: Table,

@@ -1,4 +1,5 @@
-// Storing the successors of a level's slots, each state once.
+// Storing the successors of a level's slots, each state once. Each function answers how many slots are filled then, or none where there is
+// no room for a new state.
 ghost use Rattle.std.specs.Prelude.{◌≡◌, ◌≤◌, ◌<◌};
 ghost use Rattle.tasks.specs.Words.{state_of};
 ghost use Rattle.tasks.specs.Ticker.{ticked_by};
@@ -12,7 +13,7 @@ use slots::{block_upto, end_slot};
 use states::{masks_of, words_in};
 use tasks::{Prepared, Ticker};
 
-// Stores what the state of slot i leads to under a mask, where it is new. How many slots are filled then, or none where there is no room.
+// Stores what the state of slot i leads to under a mask, where it is new; n slots are filled before.
 fn try_mask(
     ticker: Ticker,
     work: &mut [u8],
@@ -79,7 +80,8 @@ fn store_block(
     Some(n)
 }
 
-// Stores the successors of the slots from lo to hi - 1 that are new, block by block: the loop over slots then asks for nothing but their masks.
+// Stores the successors of the slots from lo to hi - 1 that are new, block by block: the loop over slots then asks for nothing but their
+// masks.
 pub(crate) fn store_level(
     ticking: Ticking,
     work: &mut [u8],
