@@ -20,7 +20,12 @@ pub enum SearchAnswer {
 // with all states in that many slots; or with every slot filled, and a state more.
 #[derive(Clone, Copy, Debug, PartialEq, Eq)]
 pub(crate) enum End {
-    Missed(usize, u8, usize, usize),
+    Missed {
+        slot: usize,
+        mask: u8,
+        depth: usize,
+        filled: usize,
+    },
     Closed(usize),
     Full,
 }
@@ -39,10 +44,15 @@ pub(crate) fn run_levels(
     push(work, heads, k, 0, [0; 8], 0, 0);
     let mut lo: usize = 0;
     let mut hi: usize = 1;
-    let mut d: usize = 0;
+    let mut depth: usize = 0;
     loop {
-        if let Some((i, m)) = hunt(ticking, work, lo, hi) {
-            return End::Missed(i, m, d, hi);
+        if let Some((slot, mask)) = hunt(ticking, work, lo, hi) {
+            return End::Missed {
+                slot,
+                mask,
+                depth,
+                filled: hi,
+            };
         }
         let Some(n) = store_level(ticking, work, heads, ends, k, lo, hi) else {
             return End::Full;
@@ -52,6 +62,6 @@ pub(crate) fn run_levels(
         }
         lo = hi;
         hi = n;
-        d += 1;
+        depth += 1;
     }
 }

@@ -23,7 +23,7 @@ fn written(k: usize, end: End) -> usize
     ensures { result ≡ written_by k end }
 {
     match end {
-        End::Missed(_, _, _, n) => n,
+        End::Missed { filled, .. } => filled,
         End::Closed(n) => n,
         End::Full => k,
     }
