@@ -1,9 +1,9 @@
 // The hunt through a level's slots and their legal masks, which stops on its first miss.
 ghost use Rattle.std.specs.Prelude.{◌≡◌, ◌≤◌};
-ghost use Rattle.tasks.specs.Ticker.{ticker_of};
 ghost use Rattle.states.specs.Miss.{miss_by};
 ghost use Rattle.search.specs.Keeping.{Level, HuntIs};
 
+use crate::ticked::Ticking;
 use states::{full_misses, masks_of, words_in};
 use tasks::{Table, Ticker, misses, tight};
 
@@ -14,24 +14,20 @@ fn has_miss(t: Table, ticker: Ticker, v: [u16; 8]) -> bool
     tight(t, v) && full_misses(t, ticker, v)
 }
 
-// Tries the slots of the level for a miss, and of a slot that has one the legal masks in increasing order: the slot and the mask that misses from it.
-pub(crate) fn hunt(
-    t: Table,
-    ticker: Ticker,
-    work: &[u8],
-    lo: usize,
-    hi: usize,
-) -> Option<(usize, u8)>
-    requires { (ticker ≡ ticker_of t) × (lo ≤ hi) × Level t work.now hi }
-    ensures { HuntIs t work.now lo hi result }
+// Tries the slots of the level for a miss, and of a slot that has one the legal masks in increasing order. Answers that slot and the first
+// mask that misses from it.
+pub(crate) fn hunt(ticking: Ticking, work: &[u8], lo: usize, hi: usize) -> Option<(usize, u8)>
+    requires { (lo ≤ hi) × Level ticking.table work.now hi }
+    ensures { HuntIs ticking.table work.now lo hi result }
 {
+    let Ticking { table, ticker } = ticking;
     'hunt: {
         for i in lo..hi {
             let v = words_in(work, i);
-            if has_miss(t, ticker, v) {
+            if has_miss(table, ticker, v) {
                 let state = ticker.prepare(v);
                 for mask in masks_of(ticker.free(v)) {
-                    if misses(t, ticker.after(state, mask)) {
+                    if misses(table, ticker.after(state, mask)) {
                         break 'hunt Some((i, mask));
                     }
                 }

@@ -24,9 +24,14 @@ pub(crate) fn report(work: &[u8], trace: &mut [u8], k: usize, end: End) -> Verdi
     ensures { ReportIs k work.now trace.old trace.new end result }
 {
     match end {
-        End::Missed(i, m, d, n) => {
-            write_trace(work, trace, k, i, d, m);
-            Verdict::Unsafe(d + 1, n)
+        End::Missed {
+            slot,
+            mask,
+            depth,
+            filled,
+        } => {
+            write_trace(work, trace, k, slot, depth, mask);
+            Verdict::Unsafe(depth + 1, filled)
         }
         End::Closed(n) => Verdict::Safe(n),
         End::Full => Verdict::NoRoom(k),

@@ -7,6 +7,7 @@ ghost use Rattle.search.specs.Keeping.{written_by, Fresh, RanBy, Lent, Finishing
 
 use crate::outcome::report;
 use crate::run::{End, Verdict, run_levels};
+use crate::ticked::Ticking;
 use slots::settle;
 use tasks::{Refusal, Table};
 
@@ -22,7 +23,7 @@ fn written(k: usize, end: End) -> usize
     ensures { result ≡ written_by k end }
 {
     match end {
-        End::Missed(_, _, _, n) => n,
+        End::Missed { filled, .. } => filled,
         End::Closed(n) => n,
         End::Full => k,
     }
@@ -33,12 +34,15 @@ fn search_levels(t: Table, work: &mut [u8], heads: &mut [u32], ends: &mut [u32],
     requires { Fresh t k ends.old work.old heads.old }
     ensures { RanBy t k ends.new work.old work.new result }
 {
-    let ticker = t.ticker();
-    run_levels(t, ticker, work, heads, ends, k)
+    let ticking = Ticking {
+        table: t,
+        ticker: t.ticker(),
+    };
+    run_levels(ticking, work, heads, ends, k)
 }
 
-// Writes the parents in the place of the words, and reports. It stands apart from the levels: with the last pass in line, their loops took up to a
-// tenth longer.
+// Writes the parents in the place of the words, and reports. It stands apart from the levels: with the last pass in line, their loops took
+// up to a tenth longer.
 fn finish(work: &mut [u8], trace: &mut [u8], ends: &[u32], k: usize, end: End) -> Verdict
     requires { Finishing k ends.now work.old trace.old end }
     ensures { Finished k ends.now work.old work.new trace.old trace.new end result }
@@ -48,8 +52,8 @@ fn finish(work: &mut [u8], trace: &mut [u8], ends: &[u32], k: usize, end: End) -
     report(work, trace, k, end)
 }
 
-// The search with this many heads on the stack. It is kept out of line, so that each number of heads stands in a frame of its own and a small
-// work space does not pay a large one's stack.
+// The search with this many heads on the stack. It is kept out of line, so that each number of heads stands in a frame of its own and a
+// small work space does not pay a large one's stack.
 #[inline(never)]
 fn search_with<const HEADS: usize>(t: Table, work: &mut [u8], trace: &mut [u8], k: usize) -> Verdict
     requires lent { Lent t work.old trace.old k }

@@ -1,17 +1,19 @@
-// Storing the successors of a level's slots, each state once.
+// Storing the successors of a level's slots, each state once. Each function answers how many slots are filled then, or none where there is
+// no room for a new state.
 ghost use Rattle.std.specs.Prelude.{◌≡◌, ◌≤◌, ◌<◌};
 ghost use Rattle.tasks.specs.Words.{state_of};
-ghost use Rattle.tasks.specs.Ticker.{ticker_of, ticked_by};
+ghost use Rattle.tasks.specs.Ticker.{ticked_by};
 ghost use Rattle.slots.specs.Running.{Marked};
 ghost use Rattle.search.specs.Indexed.{Indexed};
 ghost use Rattle.search.specs.Keeping.{Level, Attempted, RowReady, RowIs, BlockReady, BlockIs, LevelIs};
 
 use crate::index::{holds, push};
+use crate::ticked::Ticking;
 use slots::{block_upto, end_slot};
 use states::{masks_of, words_in};
-use tasks::{Prepared, Table, Ticker};
+use tasks::{Prepared, Ticker};
 
-// Stores what the state of slot i leads to under a mask, where it is new. How many slots are filled then, or none where there is no room.
+// Stores what the state of slot i leads to under a mask, where it is new; n slots are filled before.
 fn try_mask(
     ticker: Ticker,
     work: &mut [u8],
@@ -38,17 +40,17 @@ fn try_mask(
 
 // Stores the successors of slot i under its legal masks that are new; `from` slots are filled before.
 fn store_row(
-    t: Table,
-    ticker: Ticker,
+    ticking: Ticking,
     work: &mut [u8],
     heads: &mut [u32],
     k: usize,
     from: usize,
     i: usize,
 ) -> Option<usize>
-    requires { (ticker ≡ ticker_of t) × RowReady t k work.old heads.old from i }
-    ensures { RowIs t k work.old work.new heads.new from i result }
+    requires { RowReady ticking.table k work.old heads.old from i }
+    ensures { RowIs ticking.table k work.old work.new heads.new from i result }
 {
+    let ticker = ticking.ticker;
     let v = words_in(work, i);
     let state = ticker.prepare(v);
     let mut n = from;
@@ -60,8 +62,7 @@ fn store_row(
 
 // Stores the successors of the slots from lo to hi - 1, all of one block, that are new; `from` slots are filled before.
 fn store_block(
-    t: Table,
-    ticker: Ticker,
+    ticking: Ticking,
     work: &mut [u8],
     heads: &mut [u32],
     k: usize,
@@ -69,20 +70,20 @@ fn store_block(
     lo: usize,
     hi: usize,
 ) -> Option<usize>
-    requires { (ticker ≡ ticker_of t) × BlockReady t k work.old heads.old from lo hi }
-    ensures { BlockIs t k work.old work.new heads.new from lo hi result }
+    requires { BlockReady ticking.table k work.old heads.old from lo hi }
+    ensures { BlockIs ticking.table k work.old work.new heads.new from lo hi result }
 {
     let mut n = from;
     for i in lo..hi {
-        n = store_row(t, ticker, work, heads, k, n, i)?;
+        n = store_row(ticking, work, heads, k, n, i)?;
     }
     Some(n)
 }
 
-// Stores the successors of the slots from lo to hi - 1 that are new, block by block: the loop over slots then asks for nothing but their masks.
+// Stores the successors of the slots from lo to hi - 1 that are new, block by block: the loop over slots then asks for nothing but their
+// masks.
 pub(crate) fn store_level(
-    t: Table,
-    ticker: Ticker,
+    ticking: Ticking,
     work: &mut [u8],
     heads: &mut [u32],
     ends: &mut [u32],
@@ -90,14 +91,14 @@ pub(crate) fn store_level(
     lo: usize,
     hi: usize,
 ) -> Option<usize>
-    requires { (ticker ≡ ticker_of t) × (lo ≤ hi) × Level t work.old hi × Indexed k work.old heads.old hi × Marked ends.old lo hi }
-    ensures { LevelIs t k ends.old ends.new work.old work.new heads.new lo hi result }
+    requires { (lo ≤ hi) × Level ticking.table work.old hi × Indexed k work.old heads.old hi × Marked ends.old lo hi }
+    ensures { LevelIs ticking.table k ends.old ends.new work.old work.new heads.new lo hi result }
 {
     let mut n = hi;
     let mut i = lo;
     while i < hi {
         let to = block_upto(i, hi);
-        n = store_block(t, ticker, work, heads, k, n, i, to)?;
+        n = store_block(ticking, work, heads, k, n, i, to)?;
         end_slot(ends, to - 1, n);
         i = to;
     }

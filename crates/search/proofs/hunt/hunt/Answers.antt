@@ -23,16 +23,16 @@ loop-i-init c = hunt_start (system _)
 
 pub loop-mask-init : goal.loop-mask-init
 loop-mask-init c =
-    let level = c.requires.2 in
+    let level = c.requires.1 in
     let start = c.masks_of-mask-items.ensures.start in
     let words : WordList c.words_in-v.result = record { word = λ i h. search rules } in
     rw c.into_iter-mask-iterator.ensures.into_iter_gives (
       start.0,
       tt,
       walk_start _ start.0 start.1,
-      start.2 ∙ frees _ _ c.requires.0 c.free.ensures ∙ ap (free_mask _) c.words_in-v.ensures,
-      λ mask. ticks _ _ c.requires.0 c.prepare-state.ensures level.valid (ap (improper _) c.words_in-v.ensures ∙ level.proper _ c.loop-i-test.true) words mask
-          ∙ ap (λ u. after c.args.t u mask) c.words_in-v.ensures,
+      start.2 ∙ frees _ _ c.args.ticking.made c.free.ensures ∙ ap (free_mask _) c.words_in-v.ensures,
+      λ mask. ticks _ _ c.args.ticking.made c.prepare-state.ensures level.valid (ap (improper _) c.words_in-v.ensures ∙ level.proper _ c.loop-i-test.true) words mask
+          ∙ ap (λ u. after c.args.ticking.table u mask) c.words_in-v.ensures,
     )
 
 pub loop-mask-preserved : goal.loop-mask-preserved
@@ -49,28 +49,28 @@ loop-mask-preserved c =
 pub loop-i-preserved : goal.loop-i-preserved
 loop-i-preserved c =
     let h = c.loop-i in
-    let level = c.requires.2 in
+    let level = c.requires.1 in
     let a = c.args in
     let s = state_in a.work.now h.i in
     let proper = level.proper h.i c.loop-i-test.true in
-    let calm : Calm (system a.t) s =
+    let calm : Calm (system a.ticking.table) s =
     elim c.if-has_miss.branch [
       | then-has_miss+in-None w ↦
           let x = w.loop-mask.invariant in
           let e = w.in-None.ensures {u = tt} in
-          let all : CalmTo a.t s (free_mask a.t s) (place w.loop-mask.mask-iterator.next) = rw (← x.3) x.2 in
-          calm_end a.t level.valid s proper all (omega (arith, e.steps))
-      | else-has_miss w ↦ calm_by a.t level.valid s proper c.words_in-v.ensures c.requires.0 (record { word = λ i h. search rules }) (sym c.has_miss.ensures ∙ w.if-has_miss.false)
+          let all : CalmTo a.ticking.table s (free_mask a.ticking.table s) (place w.loop-mask.mask-iterator.next) = rw (← x.3) x.2 in
+          calm_end a.ticking.table level.valid s proper all (omega (arith, e.steps))
+      | else-has_miss w ↦ calm_by a.ticking.table level.valid s proper c.words_in-v.ensures c.args.ticking.made (record { word = λ i h. search rules }) (sym c.has_miss.ensures ∙ w.if-has_miss.false)
     ] in
-    hunt_turn a.t a.work.now h.invariant calm
+    hunt_turn a.ticking.table a.work.now h.invariant calm
 
 pub returns-then-misses : goal.returns-then-misses
 returns-then-misses c =
     let x = c.loop-mask.invariant in
     let next = c.in-Some.ensures {u = tt} in
-    miss_from c.requires.2 (omega arith) c.loop-i-test.true next.steps.small
+    miss_from c.requires.1 (omega arith) c.loop-i-test.true next.steps.small
     (rw (← x.3) (walk_at x.0 next.steps))
-    (ap (missed c.args.t) (sym (x.4 _)) ∙ ap (λ v. missed c.args.t (state_of v)) (sym c.after.ensures) ∙ sym c.misses.ensures ∙ c.if-misses.true)
+    (ap (missed c.args.ticking.table) (sym (x.4 _)) ∙ ap (λ v. missed c.args.ticking.table (state_of v)) (sym c.after.ensures) ∙ sym c.misses.ensures ∙ c.if-misses.true)
 
 pub returns-after-loop-i : goal.returns-after-loop-i
-returns-after-loop-i c = let e : c.loop-i.i ≡ c.args.hi = omega (arith, c.requires.1, c.loop-i-test.false) in rw e at c.loop-i.invariant
+returns-after-loop-i c = let e : c.loop-i.i ≡ c.args.hi = omega (arith, c.requires.0, c.loop-i-test.false) in rw e at c.loop-i.invariant

@@ -15,8 +15,8 @@ use Rattle.search.proofs.hunt.hunt.Given as goal
 abbrev pub invariant-loop-mask : goal.invariant-loop-mask
 invariant-loop-mask l =
     (goal.iterator-loop-mask).can_next l.mask-iterator × (goal.iterator-loop-mask).is_finite l.mask-iterator
-    × CalmTo l.t (state_in l.work l.i) l.mask-iterator.free (place l.mask-iterator.next) × (l.mask-iterator.free ≡ free_mask l.t (state_in l.work l.i))
-    × ((mask : ℕ) → state_of (ticked_by l.ticker l.state mask) ≡ after l.t (state_in l.work l.i) mask)
+    × CalmTo l.table (state_in l.work l.i) l.mask-iterator.free (place l.mask-iterator.next) × (l.mask-iterator.free ≡ free_mask l.table (state_in l.work l.i))
+    × ((mask : ℕ) → state_of (ticked_by l.ticker l.state mask) ≡ after l.table (state_in l.work l.i) mask)
 
 abbrev pub invariant-loop-i : goal.invariant-loop-i
-invariant-loop-i l = Hunting (system l.t) (state_in l.work) l.lo l.i
+invariant-loop-i l = Hunting (system l.table) (state_in l.work) l.lo l.i

@@ -16,7 +16,7 @@ overflow_add-result c =
 
 pub returns-in-Missed : goal.returns-in-Missed
 returns-in-Missed c =
-    rw c.in-Missed.is (ap (λ l. Verdict.Unsafe l c.in-Missed.n) (add-one c.in-Missed.d), c.write_trace.ensures)
+    rw c.in-Missed.is (ap (λ l. Verdict.Unsafe l c.in-Missed.filled) (add-one c.in-Missed.depth), c.write_trace.ensures)
 
 pub returns-in-Closed : goal.returns-in-Closed
 returns-in-Closed c = rw c.in-Closed.is (refl, refl)

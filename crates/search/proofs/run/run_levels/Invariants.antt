@@ -5,8 +5,8 @@ use lib.ListN.{length}
 use Rattle.search.proofs.RunLaws.{Stands}
 use Rattle.search.proofs.run.run_levels.Given as goal
 
-abbrev pub invariant-loop-i : goal.invariant-loop-i
-invariant-loop-i l = (length l.heads ≡ length l.initial.heads) × (length l.ends ≡ length l.initial.ends) × Stands l.t l.k l.ends l.initial.work l.work l.heads l.lo l.hi l.d
+abbrev pub invariant-loop-slot : goal.invariant-loop-slot
+invariant-loop-slot l = (length l.heads ≡ length l.initial.heads) × (length l.ends ≡ length l.initial.ends) × Stands l.ticking.table l.k l.ends l.initial.work l.work l.heads l.lo l.hi l.depth
 
-abbrev pub decreases-loop-i : goal.decreases-loop-i
-decreases-loop-i l = l.k - l.hi
+abbrev pub decreases-loop-slot : goal.decreases-loop-slot
+decreases-loop-slot l = l.k - l.hi

@@ -6,7 +6,7 @@ use Rattle.search.proofs.store.store_level.Goals as goal
 pub loop-i-init : goal.loop-i-init
 loop-i-init c =
     let r = c.requires in
-    (omega arith, refl, refl, level_start r.1 r.3 r.4)
+    (omega arith, refl, refl, level_start r.0 r.2 r.3)
 
 pub block_upto-to-requires : goal.block_upto-to-requires
 block_upto-to-requires c = (c.loop-i-test.true, level_low c.loop-i.invariant.3)
@@ -15,7 +15,7 @@ pub store_block-requires : goal.store_block-requires
 store_block-requires c =
     let r = c.requires in
     let to = c.block_upto-to.ensures in
-    (r.0, level_ready c.loop-i.invariant.3 to.0 to.1 to.2 r.2)
+    level_ready c.loop-i.invariant.3 to.0 to.1 to.2 r.1
 
 pub returns-in_err-n : goal.returns-in_err-n
 returns-in_err-n c =

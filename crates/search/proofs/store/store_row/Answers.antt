@@ -11,7 +11,7 @@ use Rattle.search.proofs.store.store_row.Goals as goal
 
 pub words_in-v-requires : goal.words_in-v-requires
 words_in-v-requires c =
-    let r = c.requires.1 in
+    let r = c.requires in
     let f = r.indexed.fits in
     let g = r.indexed.room in
     let h = r.below in
@@ -34,14 +34,14 @@ loop-mask-init c =
     )
 
 pub try_mask-requires : goal.try_mask-requires
-try_mask-requires c = (c.loop-mask.invariant.3 c.args.t c.requires.0 c.requires.1).row.indexed
+try_mask-requires c = (c.loop-mask.invariant.3 c.args.ticking.table c.args.ticking.made c.requires).row.indexed
 
 pub returns-in_err-n : goal.returns-in_err-n
 returns-in_err-n c =
-    let x = c.loop-mask.invariant.3 c.args.t c.requires.0 c.requires.1 in
+    let x = c.loop-mask.invariant.3 c.args.ticking.table c.args.ticking.made c.requires in
     let step = (c.in-Some.ensures {u = tt}).steps in
     let y = rw (x.ticks _) at c.in_err-n.ensures in
-    rw c.from_residual.ensures (row_crowded c.requires.1 (rw step.here at x.row) x.is step.small y)
+    rw c.from_residual.ensures (row_crowded c.requires (rw step.here at x.row) x.is step.small y)
 
 pub loop-mask-preserved : goal.loop-mask-preserved
 loop-mask-preserved c =
@@ -61,6 +61,6 @@ shape_of-heads c = c.loop-mask.invariant.2
 
 pub returns : goal.returns
 returns c =
-    let x = c.loop-mask.invariant.3 c.args.t c.requires.0 c.requires.1 in
+    let x = c.loop-mask.invariant.3 c.args.ticking.table c.args.ticking.made c.requires in
     let end = c.in-None.ensures {u = tt} in
-    row_end c.requires.1 x.row x.is (omega (arith, end.steps))
+    row_end c.requires x.row x.is (omega (arith, end.steps))
