@@ -8,11 +8,14 @@ use native.Mathlib.Numerals.{add-one}
 use lib.ListN.{length, get_or, take, drop, replicate, length-replicate}
 use lib.Dec.{eqb}
 use borrow.Author.Tests.{eq-eqb, ne_eqb, lt-ltb, le-ltb}
+use Rattle.std.specs.Prelude.{Result, Ok, Err}
 use Rattle.lists.specs.Lists.{pick}
 use Rattle.tasks.specs.Table.{table_fault}
+use Rattle.tasks.specs.Refusals.{refusal_number, refusal_at}
 use Rattle.tasks.specs.Sheet.{sheet_of, after_reading}
+use Rattle.tasks.specs.declared.refusal.Refusal.{Refusal}
 use Rattle.tasks.specs.declared.table.Table.{Table}
-use Rattle.tasks.specs.declared.sheet.Reading.{Reading}
+use Rattle.tasks.proofs.Refusals.{at_number}
 use Rattle.levels.specs.Verdict.{Answer, Verdict}
 use Rattle.levels.specs.Verdict.Answer.{Unsafe, Safe, NoRoom}
 use Rattle.levels.specs.Slots.{count_of, masks_of}
@@ -28,7 +31,7 @@ use Rattle.search.specs.Claim.{slots_of, slots_in, spaces_refusal, table_refusal
 use Rattle.search.specs.Keeping.{Ran, RanIs, RanBy, written_by, ReportReady, ReportIs, Lent, Fresh, Finishing}
 use Rattle.search.specs.declared.run.End.{End}
 use Rattle.search.proofs.ReportLaws.{traced_front, traced_rest}
-use Rattle.search.specs.declared.run.SearchAnswer.{SearchAnswer}
+use Rattle.search.specs.declared.run.Verdict as run
 use Rattle.states.proofs.SystemLaws.{replay_missed}
 
 -- ---- the replay of the masks given
@@ -50,22 +53,22 @@ verdict_replays t valid trace bytes k (NoRoom n) x = tt
 -- ---- the verdict in the paper's columns
 
 -- the answer that has the figures
-unfoldable told : Figures → SearchAnswer
+unfoldable told : Figures → Result run.Verdict Refusal
 told f =
-    pick (eqb f.kind 1) (SearchAnswer.Safe f.N)
-    (pick (eqb f.kind 2) (SearchAnswer.Unsafe f.L f.N)
-    (pick (eqb f.kind 3) (SearchAnswer.NoRoom f.N)
-    (SearchAnswer.Refused f.N)))
+    pick (eqb f.kind 1) (Ok (run.Verdict.Safe f.N))
+    (pick (eqb f.kind 2) (Ok (run.Verdict.Unsafe f.L f.N))
+    (pick (eqb f.kind 3) (Ok (run.Verdict.NoRoom f.N))
+    (Err (refusal_at f.N))))
 
-told_back : (a : SearchAnswer) → told (figures a) ≡ a
+told_back : (a : Result run.Verdict Refusal) → told (figures a) ≡ a
 unfolding told
-told_back (SearchAnswer.Safe n) = refl
-told_back (SearchAnswer.Unsafe l n) = refl
-told_back (SearchAnswer.NoRoom n) = refl
-told_back (SearchAnswer.Refused r) = refl
+told_back (Ok (run.Verdict.Safe n)) = refl
+told_back (Ok (run.Verdict.Unsafe l n)) = refl
+told_back (Ok (run.Verdict.NoRoom n)) = refl
+told_back (Err r) = ap Err (at_number r)
 
 -- LAW: an answer is told by its figures
-pub figures_is : {a b : SearchAnswer} → figures a ≡ figures b → a ≡ b
+pub figures_is : {a b : Result run.Verdict Refusal} → figures a ≡ figures b → a ≡ b
 figures_is {a} {b} e = sym (told_back a) ∙ ap told e ∙ told_back b
 
 -- what the last pass asks
@@ -124,12 +127,12 @@ module _ (t : Table) (K : ℕ) (ends w w₁ w₂ trace trace' : List ℕ) (valid
 
   -- .. and what the report found
   found_by :
-      (end : End) (r : SearchAnswer) → RanIs t K ends w w₁ end → Settled K ends w₁ w₂ (written_by K end) → ReportIs K w₂ trace trace' end r
-      → length trace' ≡ length trace → ((i : ℕ) → get_or trace' i 0 < 256) → Found (columns K) K t w w₂ trace trace' (figures r)
+      (end : End) (r : run.Verdict) → RanIs t K ends w w₁ end → Settled K ends w₁ w₂ (written_by K end) → ReportIs K w₂ trace trace' end r
+      → length trace' ≡ length trace → ((i : ℕ) → get_or trace' i 0 < 256) → Found (columns K) K t w w₂ trace trace' (figures (Ok r))
   found_by (End.Missed i m d n) r x z y long bytes =
       record {
         answer = Unsafe (suc d) n;
-        is = ap figures y.0;
+        is = ap (λ v. figures (Ok v)) y.0;
         searched = ran_searched x.ran z front rest long bytes;
       }
     where
@@ -141,13 +144,13 @@ module _ (t : Table) (K : ℕ) (ends w w₁ w₂ trace trace' : List ℕ) (valid
 
       rest : drop (suc d) trace' ≡ drop (suc d) trace
       rest = rw (y.1, ← add-one d) (traced_rest K w₂ trace i d m)
-  found_by (End.Closed n) r x z y long bytes = record { answer = Safe n; is = ap figures y.0; searched = ran_searched x z refl (ap (drop 0) y.1) long bytes }
-  found_by End.Full r x z y long bytes = record { answer = NoRoom K; is = ap figures y.0; searched = ran_searched x z refl (ap (drop 0) y.1) long bytes }
+  found_by (End.Closed n) r x z y long bytes = record { answer = Safe n; is = ap (λ v. figures (Ok v)) y.0; searched = ran_searched x z refl (ap (drop 0) y.1) long bytes }
+  found_by End.Full r x z y long bytes = record { answer = NoRoom K; is = ap (λ v. figures (Ok v)) y.0; searched = ran_searched x z refl (ap (drop 0) y.1) long bytes }
 
 pub ran_found :
     {t : Table} {K : ℕ} {ends w w₁ w₂ trace trace' : List ℕ} {end : End} → table_fault t ≡ 0 → length w₁ ≡ length w → RanBy t K ends w w₁ end
-    → Settled K ends w₁ w₂ (written_by K end) → (r : SearchAnswer) → ReportIs K w₂ trace trace' end r → length trace' ≡ length trace
-    → ((i : ℕ) → get_or trace' i 0 < 256) → Found (columns K) K t w w₂ trace trace' (figures r)
+    → Settled K ends w₁ w₂ (written_by K end) → (r : run.Verdict) → ReportIs K w₂ trace trace' end r → length trace' ≡ length trace
+    → ((i : ℕ) → get_or trace' i 0 < 256) → Found (columns K) K t w w₂ trace trace' (figures (Ok r))
 ran_found {t} {K} {ends} {w} {w₁} {w₂} {trace} {trace'} {end} valid len x z r y long bytes =
     found_by t K ends w w₁ w₂ trace trace' valid len end r x.is z y long bytes
 
@@ -189,11 +192,11 @@ module _ (K : ℕ) (trace : List ℕ) where
     table_valid h = rw (le-ltb 0 (table_fault t) h)
 
   module _ (sheet : List ℕ) where
-    pub sheet_fault : {r : ℕ} → (sheet_of sheet).answer ≡ Reading.Refused r → sheet_refusal sheet K trace ≡ r
+    pub sheet_fault : {r : Refusal} → sheet_of sheet ≡ Err r → sheet_refusal sheet K trace ≡ refusal_number r
     unfolding sheet_refusal
     sheet_fault e = ap (λ a. after_reading a (spaces_refusal K trace)) e
 
-    pub sheet_read : (sheet_of sheet).answer ≡ Reading.Accepted → sheet_refusal sheet K trace ≡ spaces_refusal K trace
+    pub sheet_read : {t : Table} → sheet_of sheet ≡ Ok t → sheet_refusal sheet K trace ≡ spaces_refusal K trace
     unfolding sheet_refusal
     sheet_read e = ap (λ a. after_reading a (spaces_refusal K trace)) e
 

@@ -6,12 +6,13 @@ use native.Mathlib.Omega.{arith}
 use native.Mathlib.Decide.{dec_lt}
 use lib.Dec.{ltb}
 use borrow.Author.Tests.{ltb-true, ltb-false}
+use Rattle.std.specs.Prelude.{Result, Ok, Err}
 use Rattle.lists.proofs.Bools.{by_bool}
 use Rattle.tasks.specs.Table.{table_fault}
-use Rattle.tasks.specs.Sheet.{sheet_of, after_reading}
+use Rattle.tasks.specs.Sheet.{sheet_of, table_in, after_reading}
+use Rattle.tasks.specs.declared.refusal.Refusal.{Refusal}
 use Rattle.tasks.specs.declared.table.Table.{Table}
-use Rattle.tasks.specs.declared.sheet.Reading.{Reading}
-use Rattle.tasks.proofs.Listed.{sheet_refusal_lem}
+use Rattle.tasks.proofs.Refusals.{refusal_some}
 use Rattle.levels.specs.Verdict.{Answer}
 use Rattle.levels.specs.Verdict.Answer.{Unsafe, Safe, NoRoom}
 use Rattle.slots.specs.Layout.{Layout}
@@ -48,12 +49,11 @@ unfolding table_refusal
 table_spaces t K trace valid = rw valid
 
 -- a search of a sheet that was not refused had a sheet that is accepted, and such spaces
-reading_passed :
-    (sheet : List ℕ) (rest : ℕ) (a : Reading) → (sheet_of sheet).answer ≡ a → after_reading a rest ≡ 0 → (a ≡ Reading.Accepted) × (rest ≡ 0)
-reading_passed sheet rest Reading.Accepted e z = (refl, z)
-reading_passed sheet rest (Reading.Refused r) e z = absurd (omega (arith, (sheet_refusal_lem sheet e).0))
+reading_passed : (rest : ℕ) (a : Result Table Refusal) → after_reading a rest ≡ 0 → (a ≡ Ok (table_in a)) × (rest ≡ 0)
+reading_passed rest (Ok t) z = (refl, z)
+reading_passed rest (Err r) z = absurd (omega (arith, refusal_some r))
 
 pub sheet_passed :
-    (sheet : List ℕ) (K : ℕ) (trace : List ℕ) → sheet_refusal sheet K trace ≡ 0 → ((sheet_of sheet).answer ≡ Reading.Accepted) × (spaces_refusal K trace ≡ 0)
+    (sheet : List ℕ) (K : ℕ) (trace : List ℕ) → sheet_refusal sheet K trace ≡ 0 → (sheet_of sheet ≡ Ok (table_in (sheet_of sheet))) × (spaces_refusal K trace ≡ 0)
 unfolding sheet_refusal
-sheet_passed sheet K trace z = reading_passed sheet (spaces_refusal K trace) (sheet_of sheet).answer refl z
+sheet_passed sheet K trace z = reading_passed (spaces_refusal K trace) (sheet_of sheet) z

@@ -1,10 +1,12 @@
 -- What a search answers and leaves: demand 3, the slots, the trace and the refusals (document 01, "The search" and "Refusals by cause").
 -- This is the file to believe, with Verdict.antt and Slots.antt of `levels`, System.antt of `states`, and Layout.antt of `slots`, where the slots stand.
-use Rattle.std.specs.Prelude.{◌≡◌, List, ℕ, ◌/◌, ◌≤◌, ◌<◌, min, eqb, ltb, length, take, drop}
+use Rattle.std.specs.Prelude.{◌≡◌, List, ℕ, ◌/◌, ◌≤◌, ◌<◌, min, eqb, ltb, length, take, drop, Result, Ok, Err}
 use Rattle.lists.specs.Lists.{pick}
 use Rattle.tasks.specs.Table.{table_fault}
-use Rattle.tasks.specs.Sheet.{sheet_of, after_reading}
+use Rattle.tasks.specs.Refusals.{refusal_number}
+use Rattle.tasks.specs.Sheet.{sheet_of, table_in, after_reading}
 use Rattle.tasks.specs.Replay.{replayed}
+use Rattle.tasks.specs.declared.refusal.Refusal.{Refusal}
 use Rattle.tasks.specs.declared.table.Table.{Table}
 use Rattle.tasks.specs.declared.play.Outcome.TheVariants as Outcome
 use Rattle.tasks.specs.declared.play.ReplayAnswer.TheVariants as ReplayAnswer
@@ -13,7 +15,7 @@ use Rattle.levels.specs.Verdict.Answer.{Unsafe, Safe, NoRoom}
 use Rattle.levels.specs.Slots.{SlotRule, Stored, Complete, count_of, masks_of}
 use Rattle.states.specs.System.{system}
 use Rattle.slots.specs.Layout.{Layout, columns, state_at, parent_at, mask_at, Zeros, Stays}
-use Rattle.search.specs.declared.run.SearchAnswer.{SearchAnswer}
+use Rattle.search.specs.declared.run.Verdict as run
 
 -- ---- K and the refusals
 
@@ -35,7 +37,7 @@ table_refusal t K trace = pick (ltb 0 (table_fault t)) (table_fault t) (spaces_r
 
 -- a search of a sheet: 1 to 8, then 9 and 10
 unfoldable pub sheet_refusal : List ℕ → ℕ → List ℕ → ℕ
-sheet_refusal sheet K trace = after_reading (sheet_of sheet).answer (spaces_refusal K trace)
+sheet_refusal sheet K trace = after_reading (sheet_of sheet) (spaces_refusal K trace)
 
 -- ---- an answer's figures
 
@@ -46,11 +48,11 @@ pub record Figures : Type 0 where
   pub N : ℕ
 
 -- those of each case of the answer
-abbrev pub figures : SearchAnswer → Figures
-figures (SearchAnswer.Safe n) = record { kind = 1; L = 0; N = n }
-figures (SearchAnswer.Unsafe l n) = record { kind = 2; L = l; N = n }
-figures (SearchAnswer.NoRoom n) = record { kind = 3; L = 0; N = n }
-figures (SearchAnswer.Refused r) = record { kind = 0; L = 0; N = r }
+abbrev pub figures : Result run.Verdict Refusal → Figures
+figures (Ok (run.Verdict.Safe n)) = record { kind = 1; L = 0; N = n }
+figures (Ok (run.Verdict.Unsafe l n)) = record { kind = 2; L = l; N = n }
+figures (Ok (run.Verdict.NoRoom n)) = record { kind = 3; L = 0; N = n }
+figures (Err r) = record { kind = 0; L = 0; N = refusal_number r }
 
 -- of a verdict of demand 3
 abbrev pub verdict_figures : Answer → Figures
@@ -108,7 +110,7 @@ TableSearchIn l K t work work' trace trace' f = Search l K (table_refusal t K tr
 
 -- the search of a sheet with K slots in layout l
 abbrev pub SheetSearchIn : Layout → ℕ → List ℕ → List ℕ → List ℕ → List ℕ → List ℕ → Figures → Type 0
-SheetSearchIn l K sheet work work' trace trace' f = Search l K (sheet_refusal sheet K trace) (sheet_of sheet).table work work' trace trace' f
+SheetSearchIn l K sheet work work' trace trace' f = Search l K (sheet_refusal sheet K trace) (table_in (sheet_of sheet)) work work' trace trace' f
 
 -- ---- what the calls promise: columns laid out for K
 

@@ -1,6 +1,6 @@
 -- Only the search's bookkeeping, no part of its claim: what its parts ask of each other and promise. K slots stand in w in the layout while the search runs
 -- (Running.antt of `slots`), and ends are the ends of its blocks.
-use Rattle.std.specs.Prelude.{◌≡◌, ◌⊎◌, false, List, [], ◌∷◌, ◌++◌, ℕ, suc, ◌+◌, ◌*◌, ◌/◌, ◌≤◌, ◌<◌, length, get_or, drop, Option, Some, None}
+use Rattle.std.specs.Prelude.{◌≡◌, ◌⊎◌, false, List, [], ◌∷◌, ◌++◌, ℕ, suc, ◌+◌, ◌*◌, ◌/◌, ◌≤◌, ◌<◌, length, get_or, drop, Option, Some, None, Ok}
 use Rattle.tasks.specs.Table.{table_fault}
 use Rattle.tasks.specs.State.{improper}
 use Rattle.tasks.specs.Tick.{after}
@@ -18,7 +18,7 @@ use Rattle.slots.specs.Running.{parent_in, Marked, Settled}
 use Rattle.search.specs.Claim.{slots_in, figures, Found}
 use Rattle.search.specs.Indexed.{Indexed, Pushed}
 use Rattle.search.specs.declared.run.End.{End}
-use Rattle.search.specs.declared.run.SearchAnswer.{SearchAnswer}
+use Rattle.search.specs.declared.run.Verdict as run
 
 -- ---- levels' invariants over the slots of a work space
 
@@ -221,10 +221,10 @@ ReportReady K w trace (End.Closed n) = Unit {0}
 ReportReady K w trace End.Full = Unit {0}
 
 -- the answer, and the trace space after it
-abbrev pub ReportIs : ℕ → List ℕ → List ℕ → List ℕ → End → SearchAnswer → Type 0
-ReportIs K w trace trace' (End.Missed i m d n) r = (r ≡ SearchAnswer.Unsafe (suc d) n) × (trace' ≡ traced K w trace i d m)
-ReportIs K w trace trace' (End.Closed n) r = (r ≡ SearchAnswer.Safe n) × (trace' ≡ trace)
-ReportIs K w trace trace' End.Full r = (r ≡ SearchAnswer.NoRoom K) × (trace' ≡ trace)
+abbrev pub ReportIs : ℕ → List ℕ → List ℕ → List ℕ → End → run.Verdict → Type 0
+ReportIs K w trace trace' (End.Missed i m d n) r = (r ≡ run.Verdict.Unsafe (suc d) n) × (trace' ≡ traced K w trace i d m)
+ReportIs K w trace trace' (End.Closed n) r = (r ≡ run.Verdict.Safe n) × (trace' ≡ trace)
+ReportIs K w trace trace' End.Full r = (r ≡ run.Verdict.NoRoom K) × (trace' ≡ trace)
 
 -- ---- the whole search
 
@@ -244,6 +244,6 @@ pub record Finishing (K : ℕ) (ends w trace : List ℕ) (end : End) : Type 0 wh
   pub ready : (w' : List ℕ) → Settled K ends w w' (written_by K end) → ReportReady K w' trace end
 
 -- .. and what is left then: what the levels found of a valid table, w₀ being the work space at first, is the claim
-pub record Finished (K : ℕ) (ends w w' trace trace' : List ℕ) (end : End) (r : SearchAnswer) : Type 0 where
+pub record Finished (K : ℕ) (ends w w' trace trace' : List ℕ) (end : End) (r : run.Verdict) : Type 0 where
   pub found :
-      (t : Table) (w₀ : List ℕ) → table_fault t ≡ 0 → length w ≡ length w₀ → RanBy t K ends w₀ w end → Found (columns K) K t w₀ w' trace trace' (figures r)
+      (t : Table) (w₀ : List ℕ) → table_fault t ≡ 0 → length w ≡ length w₀ → RanBy t K ends w₀ w end → Found (columns K) K t w₀ w' trace trace' (figures (Ok r))

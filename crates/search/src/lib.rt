@@ -8,5 +8,5 @@ mod run;
 mod search;
 mod store;
 
-pub use run::SearchAnswer;
+pub use run::Verdict;
 pub use search::{search_sheet, search_table};

@@ -8,13 +8,12 @@ use crate::index::push;
 use crate::store::store_level;
 use tasks::{Table, Ticker};
 
-// Safe with the count; Unsafe with L and the count; No room with the count; or a refusal's number.
-#[derive(Clone, Copy)]
-pub enum SearchAnswer {
+// Safe with the count; Unsafe with L and the count; or No room with the count.
+#[derive(Clone, Copy, Debug, PartialEq, Eq)]
+pub enum Verdict {
     Safe(usize),
     Unsafe(usize, usize),
     NoRoom(usize),
-    Refused(u8),
 }
 
 // How the levels end: with a slot, a mask that misses from it, the number of masks that lead to it and that of slots filled;

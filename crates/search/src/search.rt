@@ -1,14 +1,14 @@
 // The public calls: the search of a table and the search of a sheet.
-ghost use Rattle.std.specs.Prelude.{◌≡◌, ◌/◌, ◌<◌, ◌≤◌, min};
+ghost use Rattle.std.specs.Prelude.{◌≡◌, ◌/◌, ◌<◌, ◌≤◌, min, Ok};
 ghost use Rattle.tasks.specs.Table.{table_fault};
 ghost use Rattle.slots.specs.Layout.{columns};
 ghost use Rattle.search.specs.Claim.{slots_in, spaces_refusal, figures, Found, Search, TableSearch, SheetSearch};
 ghost use Rattle.search.specs.Keeping.{written_by, Fresh, RanBy, Lent, Finishing, Finished};
 
 use crate::outcome::report;
-use crate::run::{End, SearchAnswer, run_levels};
+use crate::run::{End, Verdict, run_levels};
 use slots::settle;
-use tasks::{Reading, Table};
+use tasks::{Refusal, Table};
 
 // How many slots a work space of this length has, at most 1,000,000.
 fn slots_in(length: usize) -> usize
@@ -40,7 +40,7 @@ fn search_levels(t: Table, work: &mut [u8], heads: &mut [u32], ends: &mut [u32],
 
 // Writes the parents in the place of the words, and reports. It stands apart from the levels: with the last pass in line, their loops took up to a
 // tenth longer.
-fn finish(work: &mut [u8], trace: &mut [u8], ends: &[u32], k: usize, end: End) -> SearchAnswer
+fn finish(work: &mut [u8], trace: &mut [u8], ends: &[u32], k: usize, end: End) -> Verdict
     requires { Finishing k ends.now work.old trace.old end }
     ensures { Finished k ends.now work.old work.new trace.old trace.new end result }
 {
@@ -52,15 +52,10 @@ fn finish(work: &mut [u8], trace: &mut [u8], ends: &[u32], k: usize, end: End) -
 // The search with this many heads on the stack. It is kept out of line, so that each number of heads stands in a frame of its own and a small
 // work space does not pay a large one's stack.
 #[inline(never)]
-fn search_with<const HEADS: usize>(
-    t: Table,
-    work: &mut [u8],
-    trace: &mut [u8],
-    k: usize,
-) -> SearchAnswer
+fn search_with<const HEADS: usize>(t: Table, work: &mut [u8], trace: &mut [u8], k: usize) -> Verdict
     requires lent { Lent t work.old trace.old k }
     requires heads { (0 < HEADS) × (HEADS ≤ 262144) }
-    ensures { Found (columns k) k t work.old work.new trace.old trace.new (figures result) }
+    ensures { Found (columns k) k t work.old work.new trace.old trace.new (figures (Ok result)) }
 {
     let mut heads = [0u32; HEADS];
     let mut ends = [1000000u32; 245];
@@ -69,9 +64,9 @@ fn search_with<const HEADS: usize>(
 }
 
 // The search with the heads for a work space of k slots: 16 KB, 256 KB or 1 MB.
-fn search_sized(t: Table, work: &mut [u8], trace: &mut [u8], k: usize) -> SearchAnswer
+fn search_sized(t: Table, work: &mut [u8], trace: &mut [u8], k: usize) -> Verdict
     requires { Lent t work.old trace.old k }
-    ensures { Found (columns k) k t work.old work.new trace.old trace.new (figures result) }
+    ensures { Found (columns k) k t work.old work.new trace.old trace.new (figures (Ok result)) }
 {
     if k <= 16384 {
         return search_with::<4096>(t, work, trace, k);
@@ -83,40 +78,32 @@ fn search_sized(t: Table, work: &mut [u8], trace: &mut [u8], k: usize) -> Search
 }
 
 // The search of a valid table.
-fn search_valid(t: Table, work: &mut [u8], trace: &mut [u8]) -> SearchAnswer
+fn search_valid(t: Table, work: &mut [u8], trace: &mut [u8]) -> Result<Verdict, Refusal>
     requires { table_fault t ≡ 0 }
     ensures { Search (columns (slots_in work.old)) (slots_in work.old) (spaces_refusal (slots_in work.old) trace.old) t work.old work.new trace.old trace.new (figures result) }
 {
     let k = slots_in(work.len());
     if k == 0 {
-        return SearchAnswer::Refused(9);
+        return Err(Refusal::NoSlot);
     }
     if trace.len() < k {
-        return SearchAnswer::Refused(10);
+        return Err(Refusal::ShortTrace);
     }
-    search_sized(t, work, trace, k)
+    Ok(search_sized(t, work, trace, k))
 }
 
 // The search of a table.
-pub fn search_table(t: Table, work: &mut [u8], trace: &mut [u8]) -> SearchAnswer
+pub fn search_table(t: Table, work: &mut [u8], trace: &mut [u8]) -> Result<Verdict, Refusal>
     ensures { TableSearch t work.old work.new trace.old trace.new (figures result) }
 {
-    let fault = t.fault();
-    if 0 < fault {
-        return SearchAnswer::Refused(fault);
-    }
+    t.check()?;
     search_valid(t, work, trace)
 }
 
 // The search of a sheet's table.
-pub fn search_sheet(sheet: &[u8], work: &mut [u8], trace: &mut [u8]) -> SearchAnswer
+pub fn search_sheet(sheet: &[u8], work: &mut [u8], trace: &mut [u8]) -> Result<Verdict, Refusal>
     ensures { SheetSearch sheet.now work.old work.new trace.old trace.new (figures result) }
 {
-    let read = tasks::read_sheet(sheet);
-    let answer = read.answer;
-    let t = read.table;
-    match answer {
-        Reading::Accepted => search_valid(t, work, trace),
-        Reading::Refused(number) => SearchAnswer::Refused(number),
-    }
+    let t = tasks::read_sheet(sheet)?;
+    search_valid(t, work, trace)
 }

@@ -1,7 +1,7 @@
 -- By what the search ended with. Assumes nothing.
 use mathlib.Core.Path.{refl, ap}
 use native.Mathlib.Numerals.{add-one}
-use Rattle.search.specs.declared.run.SearchAnswer.TheVariants as SearchAnswer
+use Rattle.search.specs.declared.run.Verdict.TheVariants as Verdict
 use native.Mathlib.Omega.{arith}
 use Rattle.search.proofs.outcome.report.Goals as goal
 
@@ -16,7 +16,7 @@ overflow_add-result c =
 
 pub returns-in-Missed : goal.returns-in-Missed
 returns-in-Missed c =
-    rw c.in-Missed.is (ap (λ l. SearchAnswer.Unsafe l c.in-Missed.n) (add-one c.in-Missed.d), c.write_trace.ensures)
+    rw c.in-Missed.is (ap (λ l. Verdict.Unsafe l c.in-Missed.n) (add-one c.in-Missed.d), c.write_trace.ensures)
 
 pub returns-in-Closed : goal.returns-in-Closed
 returns-in-Closed c = rw c.in-Closed.is (refl, refl)

@@ -1,32 +1,28 @@
 -- The sheet is refused, or its table, which is valid, is searched. Assumes nothing.
-use Rattle.tasks.specs.Sheet.{sheet_of}
-use Rattle.tasks.specs.declared.sheet.Reading.TheVariants.{Refused}
-use Rattle.tasks.proofs.Listed.{sheet_refusal_lem, read_accepted}
 use mathlib.Core.Path.{◌≡◌, sym, ◌∙◌}
-use Rattle.tasks.proofs.Answers.{sheet_is, sheet_reading}
+use native.Mathlib.Omega.{arith}
+use Rattle.std.proofs.Common.{rules}
+use Rattle.std.specs.Prelude.{Err}
+use Rattle.tasks.proofs.Refusals.{refusal_some}
 use Rattle.tasks.proofs.RoundTrip.{read_valid}
 use Rattle.search.specs.Claim.{slots_in}
 use Rattle.search.proofs.ClaimLaws.{sheet_fault, sheet_read, refused_search}
-use native.Mathlib.Omega.{arith}
 use Rattle.search.proofs.search.search_sheet.Goals as goal
 
 pub search_valid-requires : goal.search_valid-requires
 search_valid-requires c =
-    let read = c.read_sheet-read in
     let known = c.type_inv.sheet in
-    read_valid c.args.sheet.now (λ i. omega (arith, known i)) read.result.table
-    (sym (sheet_is read.ensures) ∙ read_accepted read.result c.in-Accepted.is)
+    read_valid c.args.sheet.now (λ i. omega (arith, known i)) c.in_ok-t.t (sym c.read_sheet.ensures ∙ c.in_ok-t.was)
 
-pub returns-in-Accepted : goal.returns-in-Accepted
-returns-in-Accepted c =
+pub returns-in_err-t : goal.returns-in_err-t
+returns-in_err-t c =
     let a = c.args in
-    let read = c.read_sheet-read in
-    let is = sheet_reading read.ensures ∙ c.in-Accepted.is in
-    rw (sheet_read (slots_in a.work.now) a.trace.now a.sheet.now is, ← read.ensures.1) c.search_valid.ensures
+    let r : c.from_residual.result ≡ Err c.in_err-t.field-0.0 = search rules in
+    let e = sym c.read_sheet.ensures ∙ c.in_err-t.was in
+    rw r (refused_search (sheet_fault (slots_in a.work.now) a.trace.now a.sheet.now e) (refusal_some c.in_err-t.field-0.0))
 
-pub returns-in-Refused : goal.returns-in-Refused
-returns-in-Refused c =
+pub returns : goal.returns
+returns c =
     let a = c.args in
-    let read = c.read_sheet-read in
-    let e : (sheet_of a.sheet.now).answer ≡ Refused _ = sheet_reading read.ensures ∙ c.in-Refused.is in
-    refused_search (sheet_fault (slots_in a.work.now) a.trace.now a.sheet.now e) (sheet_refusal_lem a.sheet.now e).0
+    let e = sym c.read_sheet.ensures ∙ c.in_ok-t.was in
+    rw (sheet_read (slots_in a.work.now) a.trace.now a.sheet.now e, e) c.search_valid.ensures
