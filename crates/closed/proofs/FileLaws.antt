@@ -1,5 +1,5 @@
 -- The states of a file and their keys: what a lookup by key says of states. Assumes nothing.
-use Prim.Native.Nat.{ℕ, ◌+◌, ◌<◌}
+use Prim.Native.Nat.{ℕ, ◌<◌}
 use mathlib.Core.Path.{◌≡◌, refl, sym}
 use mathlib.Core.Bool.{Bool, true, false}
 use mathlib.Core.List.{List}
@@ -9,7 +9,7 @@ use Rattle.tasks.specs.State.{start}
 use Rattle.lists.proofs.Fill.{eight_at}
 use Rattle.states.specs.Keys.{same_keys, key_in}
 use Rattle.states.specs.declared.keys.Key.{Key}
-use Rattle.states.proofs.KeyLaws.{Bytes, keys_same, keys_differ}
+use Rattle.states.proofs.KeyLaws.{Bytes, keys_same}
 use Rattle.closed.specs.Keeping.{HeldIs, NamedIs}
 
 -- ---- what is compared

@@ -8,11 +8,12 @@ use mathlib.Core.List.{List}
 use native.Mathlib.Omega.{arith}
 use native.Mathlib.Decide.{ℕ_discrete, dec_lt}
 use Rattle.lists.specs.Lists.{pick}
+use Rattle.std.specs.Prelude.{Ok}
 use Rattle.tasks.specs.Table.{table_fault}
 use Rattle.tasks.specs.State.{start}
 use Rattle.tasks.specs.Tick.{illegal, after, missed}
 use Rattle.tasks.specs.declared.table.Table.{Table}
-use Rattle.tasks.specs.declared.tick.TickAnswer.TheVariants as Answer
+use Rattle.tasks.specs.declared.tick.Step.TheVariants as Step
 use Rattle.lists.proofs.Bools.{by_bool}
 use Rattle.tasks.proofs.Answered.{ticked_legal}
 use Rattle.states.specs.Keys.{key_of}
@@ -52,7 +53,7 @@ module _ (t : Table) (file : List ℕ) (valid : table_fault t ≡ 0) where
       leads i m h b legal =
           let e = ticked_legal t (state_in file i) m valid (sound.state i h).proper legal in
           record {
-            next = ap (λ r. r.answer) e ∙ ap (λ b. pick b Answer.Missed Answer.Next) (calm i m h b legal);
+            next = ap (λ r. r.answer) e ∙ ap (λ b. Ok (pick b Step.Missed Step.Next)) (calm i m h b legal);
             contained = rw (ap (λ r. r.state) e) (x.inside i m h b legal tt);
           }
 

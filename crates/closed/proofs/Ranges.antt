@@ -15,7 +15,7 @@ use Rattle.std.specs.Option.{MatchOption}
 use Rattle.std.proofs.iter.Yields.{nat_range_steps}
 use Rattle.std.proofs.lemmas.Iterator.{cases_from_any, cases_from_all, YieldsList-from_range}
 use Rattle.std.proofs.lemmas.List.FromFn.{length-range_with_len, get_or-range_with_len}
-use lib.ListN.{length, get_or}
+use lib.ListN.{get_or}
 
 -- the numbers below n, one by one
 at_place : (n k : ℕ) → k < n → get_or (range_with_len 0 n) k 0 ≡ k

@@ -5,7 +5,6 @@ use mathlib.Core.Bool.{Bool, true, false, ◌&&◌, ◌||◌}
 use mathlib.Core.List.{List}
 use native.Mathlib.Omega.{arith}
 use native.Mathlib.Decide.{dec_lt}
-use borrow.Author.Count.{below_more}
 use borrow.Author.Tests.{le-leb, lt-ltb}
 use lib.Bits.{bit_and}
 use lib.Dec.{eqb, leb, ltb}
@@ -38,7 +37,7 @@ use Rattle.states.proofs.SystemLaws.{step_missed}
 use Rattle.states.proofs.MaskLaws.{Walked, walked_start, walked_next, submask_legal, legal_submask}
 use Rattle.states.specs.Bytes.{state_in}
 use Rattle.closed.specs.Closed.{states_in, Closed}
-use Rattle.closed.specs.Keeping.{class_of, landing, lands, Due, RowOf, SoundState, StateIs, Sound, SoundIs, Ready, key_at, AllHeld, Grown, AfterWaits, From, RowWaits}
+use Rattle.closed.specs.Keeping.{class_of, landing, lands, Due, RowOf, SoundState, StateIs, SoundIs, Ready, key_at, AllHeld, Grown, AfterWaits, From, RowWaits}
 use Rattle.closed.specs.declared.passes.Split.{Split}
 use Rattle.closed.specs.declared.passes.Pass.{Pass}
 use Rattle.closed.proofs.Theorems.{closed_calm}

@@ -5,7 +5,7 @@ use mathlib.Core.List.{List, [], ◌∷◌}
 use native.Mathlib.Omega.{arith}
 use native.Mathlib.Decide.{dec_lt}
 use lib.ListN.{get_or}
-use Rattle.tasks.specs.Sheet.{sheet_of}
+use Rattle.tasks.specs.Sheet.{sheet_of, table_in}
 use Rattle.tasks.specs.Tick.{ticked}
 use Rattle.tasks.specs.declared.state.State.{State}
 use Rattle.tasks.specs.declared.table.Table.{Table}
@@ -68,5 +68,5 @@ pub table_safe : (t : Table) (file : List ℕ) → TableJudged t file (1 ∷ [])
 table_safe t file x = closed_safe (accepted_closed x)
 
 -- LAW: .. and so for a sheet's table
-pub sheet_safe : (sheet file : List ℕ) → SheetJudged sheet file (1 ∷ []) → (l : List ℕ) → Misses (system (sheet_of sheet).table) l → ⊥
+pub sheet_safe : (sheet file : List ℕ) → SheetJudged sheet file (1 ∷ []) → (l : List ℕ) → Misses (system (table_in (sheet_of sheet))) l → ⊥
 sheet_safe sheet file x = closed_safe (accepted_closed x)

@@ -9,15 +9,7 @@ use crate::file::scan;
 use crate::passes::{all_inside, split_of};
 use crate::sound::is_sound;
 use states::{key_of, words_in};
-use tasks::{Reading, Table, Ticker};
-
-// The answer to a file: accepted, No, or a refusal's number.
-#[derive(Clone, Copy, Debug, PartialEq, Eq)]
-pub enum ClosedAnswer {
-    Accepted,
-    No,
-    Refused(u8),
-}
+use tasks::{Refusal, Table, Ticker};
 
 // Whether every state of the file is proper, and no mask misses from any.
 fn all_sound(t: Table, ticker: Ticker, file: &[u8], n: usize) -> bool
@@ -68,44 +60,29 @@ fn closed_sized(t: Table, file: &[u8], n: usize) -> bool
 }
 
 // The answer for a valid table.
-fn closed_valid(t: Table, file: &[u8]) -> ClosedAnswer
+fn closed_valid(t: Table, file: &[u8]) -> Result<bool, Refusal>
     requires { table_fault t ≡ 0 }
     ensures { Judged (file_refusal file.now) t file.now (closed_answer result) }
 {
     let length = file.len();
-    if length == 0 {
-        return ClosedAnswer::Refused(14);
+    if length == 0 || 0 < length % 16 {
+        return Err(Refusal::FileLength);
     }
-    if 0 < length % 16 {
-        return ClosedAnswer::Refused(14);
-    }
-    if closed_sized(t, file, length / 16) {
-        ClosedAnswer::Accepted
-    } else {
-        ClosedAnswer::No
-    }
+    Ok(closed_sized(t, file, length / 16))
 }
 
 // Whether a file of states is closed under the ticks of a table.
-pub fn closed_table(t: Table, file: &[u8]) -> ClosedAnswer
+pub fn closed_table(t: Table, file: &[u8]) -> Result<bool, Refusal>
     ensures { TableJudged t file.now (closed_answer result) }
 {
-    let fault = t.fault();
-    if 0 < fault {
-        return ClosedAnswer::Refused(fault);
-    }
+    t.check()?;
     closed_valid(t, file)
 }
 
 // .. under the ticks of a sheet's table.
-pub fn closed_sheet(sheet: &[u8], file: &[u8]) -> ClosedAnswer
+pub fn closed_sheet(sheet: &[u8], file: &[u8]) -> Result<bool, Refusal>
     ensures { SheetJudged sheet.now file.now (closed_answer result) }
 {
-    let read = tasks::read_sheet(sheet);
-    let answer = read.answer;
-    let t = read.table;
-    match answer {
-        Reading::Accepted => closed_valid(t, file),
-        Reading::Refused(number) => ClosedAnswer::Refused(number),
-    }
+    let t = tasks::read_sheet(sheet)?;
+    closed_valid(t, file)
 }

@@ -9,4 +9,4 @@ mod passes;
 mod pending;
 mod sound;
 
-pub use check::{ClosedAnswer, closed_sheet, closed_table};
+pub use check::{closed_sheet, closed_table};

@@ -1,16 +1,23 @@
 -- The table is refused, or it is valid and the file is judged. Assumes nothing.
-use Rattle.closed.specs.Closed.{closed_answer}
+use mathlib.Core.Path.{◌≡◌, sym, ◌∙◌}
+use Rattle.std.proofs.Common.{rules}
+use Rattle.std.specs.Prelude.{Err}
+use Rattle.tasks.specs.Table.{table_fault}
+use Rattle.tasks.proofs.Refusals.{accepted_unless}
 use Rattle.closed.proofs.AnswerLaws.{judged_refused, table_fault_lem, table_valid}
 use Rattle.closed.proofs.check.closed_table.Goals as goal
 
-pub returns-then-fault-gt0 : goal.returns-then-fault-gt0
-unfolding closed_answer
-returns-then-fault-gt0 c =
+pub returns-in_err-check : goal.returns-in_err-check
+returns-in_err-check c =
     let a = c.args in
-    let fault = c.fault-fault.ensures in
-    rw fault (judged_refused (table_fault_lem a.file.now a.t (rw fault at c.if-fault-gt0.true)) (rw fault at c.if-fault-gt0.true))
+    let r : c.from_residual.result ≡ Err c.in_err-check.field-0.0 = search rules in
+    rw r (judged_refused _ (table_fault_lem a.file.now a.t (sym c.check.ensures ∙ c.in_err-check.was)))
+
+pub closed_valid-requires : goal.closed_valid-requires
+closed_valid-requires c = (accepted_unless (table_fault c.args.t) tt (sym c.check.ensures ∙ c.in_ok-check.was)).0
 
 pub returns : goal.returns
 returns c =
     let a = c.args in
-    rw (table_valid a.file.now a.t (rw c.fault-fault.ensures at c.if-fault-gt0.false)) c.closed_valid.ensures
+    let fine = (accepted_unless (table_fault a.t) tt (sym c.check.ensures ∙ c.in_ok-check.was)).0 in
+    rw (table_valid a.file.now a.t fine) c.closed_valid.ensures

@@ -1,5 +1,4 @@
 -- Case by case. Assumes nothing.
-use Prim.Native.Nat.{min}
 use mathlib.Core.Path.{sym, ap, ◌∙◌}
 use Rattle.lists.specs.Lists.{pick}
 use Rattle.closed.proofs.PassLaws.{landing_now, landing_far}
