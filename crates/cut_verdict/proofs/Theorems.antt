@@ -7,7 +7,7 @@ use mathlib.Core.Bool.{true, false}
 use mathlib.Core.List.{List}
 use lib.ListN.{length}
 use Rattle.lists.proofs.Bools.{by_bool}
-use Rattle.tasks.specs.Sheet.{sheet_of, sheet_bytes}
+use Rattle.tasks.specs.Sheet.{sheet_of, sheet_bytes, table_in}
 use Rattle.tasks.specs.State.{start, improper}
 use Rattle.tasks.specs.Masks.{free_mask}
 use Rattle.tasks.specs.Tick.{illegal, after, missed}
@@ -109,14 +109,14 @@ module _ (work work' trace trace' w w' trace₂ trace₂' : List ℕ) (f g : Fig
 
     -- THEOREM: and so for every sheet and the sheet of the cut
     pub sheet_cut_safe :
-        (sheet : List ℕ) (k : ℕ) → cut_refusal (sheet_of sheet).table k ≡ 0 → SheetSearch sheet work work' trace trace' f
-        → SheetSearch (sheet_bytes (cut_table k (sheet_of sheet).table)) w w' trace₂ trace₂' g → (g.kind ≡ 1) × (g.N ≤ f.N)
+        (sheet : List ℕ) (k : ℕ) → cut_refusal (table_in (sheet_of sheet)) k ≡ 0 → SheetSearch sheet work work' trace trace' f
+        → SheetSearch (sheet_bytes (cut_table k (table_in (sheet_of sheet)))) w w' trace₂ trace₂' g → (g.kind ≡ 1) × (g.N ≤ f.N)
     sheet_cut_safe sheet k none whole part =
-        let t = (sheet_of sheet).table in
+        let t = table_in (sheet_of sheet) in
         let x = not_cut_refused t k none in
         let again = cut_read t k x in
         let cut = sheet_bytes (cut_table k t) in
         let spaces = (sheet_passed sheet (slots_in work) trace (safe_search whole safe).0).1 in
-        let read : sheet_refusal cut (slots_in work) trace₂ ≡ spaces_refusal (slots_in work) trace₂ = sheet_read (slots_in work) trace₂ cut (ap (λ r. r.answer) again) in
-        search_safe t k x whole safe (rw (same, ap (λ r. r.table) again) at part)
+        let read : sheet_refusal cut (slots_in work) trace₂ ≡ spaces_refusal (slots_in work) trace₂ = sheet_read (slots_in work) trace₂ cut again in
+        search_safe t k x whole safe (rw (same, again) at part)
         (read ∙ spaces_same (slots_in work) trace trace₂ long ∙ spaces)

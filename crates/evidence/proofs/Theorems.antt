@@ -8,17 +8,16 @@ use lib.ListN.{length, get_or}
 use lib.Seq.{length-take-le, get_or-take}
 use borrow.Author.Tests.{le-ltb, ne_eqb}
 use Rattle.tasks.specs.Table.{table_fault}
-use Rattle.tasks.specs.Sheet.{sheet_of, after_reading}
+use Rattle.std.specs.Prelude.{Ok}
+use Rattle.tasks.specs.Sheet.{sheet_of, table_in, after_reading}
 use Rattle.tasks.specs.State.{start}
 use Rattle.tasks.specs.Tick.{illegal, after, missed, answered, ticked}
 use Rattle.tasks.specs.Masks.{free_mask}
 use Rattle.tasks.specs.declared.state.State.{State}
 use Rattle.tasks.specs.declared.table.Table.{Table}
-use Rattle.tasks.specs.declared.sheet.Reading.TheVariants as Reading
-use Rattle.tasks.specs.declared.tick.TickAnswer.TheVariants as Tick
+use Rattle.tasks.specs.declared.tick.Step.TheVariants as Step
 use Rattle.lists.proofs.Bools.{by_bool}
 use Rattle.tasks.proofs.Answered.{ticked_legal}
-use Rattle.tasks.proofs.Listed.{read_accepted}
 use Rattle.tasks.proofs.RoundTrip.{read_valid}
 use Rattle.levels.specs.Verdict.{Reached, Misses}
 use Rattle.levels.specs.Verdict.Answer.{Safe}
@@ -59,7 +58,7 @@ module _ {l : Layout} {K : ℕ} {t : Table} (valid : table_fault t ≡ 0) {work 
         (λ e. absurd (reached_calm (system t) none r m (after t s m) (step_missed t valid s proper m small sub e)))
         (λ e.
         let u = after t s m in
-        let is : ticked t s m ≡ answered Tick.Next u = rw e at (ticked_legal t s m valid proper legal) in
+        let is : ticked t s m ≡ answered (Ok Step.Next) u = rw e at (ticked_legal t s m valid proper legal) in
         record {
           next = ap (λ a. a.answer) is;
           contained = rw is (contained u (reached_next (system t) r m (step_next t valid s proper m small sub e)));
@@ -134,7 +133,7 @@ table_accepted t work work' trace trace' f x k a judged =
     let valid = (table_passed t (slots_in work) trace y.0).0 in
     accepted valid y.1 (slots_fit work) (table_file t (file_of work' f.N) valid) judged
 
-sheet_file : (sheet file : List ℕ) → (sheet_of sheet).answer ≡ Reading.Accepted → file_refusal file ≡ 0 → sheet_file_refusal sheet file ≡ 0
+sheet_file : (sheet file : List ℕ) {t : Table} → sheet_of sheet ≡ Ok t → file_refusal file ≡ 0 → sheet_file_refusal sheet file ≡ 0
 unfolding sheet_file_refusal
 sheet_file sheet file e whole = ap (λ a. after_reading a (file_refusal file)) e ∙ whole
 
@@ -146,5 +145,5 @@ pub sheet_accepted :
 sheet_accepted sheet bytes work work' trace trace' f x k a judged =
     let y = safe_search x k in
     let read = (sheet_passed sheet (slots_in work) trace y.0).0 in
-    let valid = read_valid sheet bytes (sheet_of sheet).table (read_accepted (sheet_of sheet) read) in
+    let valid = read_valid sheet bytes (table_in (sheet_of sheet)) read in
     accepted valid y.1 (slots_fit work) (sheet_file sheet (file_of work' f.N) read) judged

@@ -6,6 +6,7 @@ use mathlib.Core.List.{List, ◌++◌, map}
 use Rattle.lists.specs.Lists.{count, any}
 use Rattle.tasks.specs.Table.{breaks, fault_at, table_fault}
 use Rattle.tasks.specs.Number.{number_in, number_at}
+use Rattle.tasks.specs.Refusals.{refusal_at}
 use Rattle.tasks.specs.State.{started, keeps, late, improper_at, improper}
 use Rattle.jobs.specs.Job.{job_key, job_age}
 use Rattle.tasks.specs.Tick.{illegal_at, illegal, released_at, released, key, age, before, ahead, runs, chosen, ran_at, fallen, ran, after, missed, refusal, ticked}
@@ -21,12 +22,12 @@ use Rattle.search.proofs.ComputedLaws.{verdict_right}
 use Rattle.starred.specs.Starred.{answer, starred, least_slack, by_age, Example}
 
 pub starred_hold : map (λ (e : Example). answer e.asks) starred ≡ map (λ (e : Example). e.says) starred
-unfolding computed step same_numbers same_states below verdict_of number_at number_in number_answer replay_figures replay_answer count any breaks fault_at table_fault started keeps late improper_at improper illegal_at illegal released_at released job_key key job_age age before ahead runs chosen ran_at fallen ran after missed refusal ticked played replayed
+unfolding computed step same_numbers same_states below verdict_of number_at number_in number_answer replay_figures replay_answer count any breaks fault_at table_fault started keeps late improper_at improper illegal_at illegal released_at released job_key key job_age age before ahead runs chosen ran_at fallen ran after missed refusal_at refusal ticked played replayed
 starred_hold = refl
 
 -- and what tells least slack from earliest deadline, and the age from the task number, is answered as said
 pub orders_hold : map (λ (e : Example). answer e.asks) (least_slack ++ by_age) ≡ map (λ (e : Example). e.says) (least_slack ++ by_age)
-unfolding computed step same_numbers same_states below verdict_of number_at number_in number_answer replay_figures replay_answer count any breaks fault_at table_fault started keeps late improper_at improper illegal_at illegal released_at released job_key key job_age age before ahead runs chosen ran_at fallen ran after missed refusal ticked played replayed
+unfolding computed step same_numbers same_states below verdict_of number_at number_in number_answer replay_figures replay_answer count any breaks fault_at table_fault started keeps late improper_at improper illegal_at illegal released_at released job_key key job_age age before ahead runs chosen ran_at fallen ran after missed refusal_at refusal ticked played replayed
 orders_hold = refl
 
 -- the verdicts computed are those of demand 3, for any table and any K from 1 on
