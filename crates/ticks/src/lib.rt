@@ -64,7 +64,9 @@ fn figure(t: Table, v: [u16; 8]) -> u64
     ensures { result ≡ figure t (state_of v) }
 {
     let s = State::of_words(v);
-    word(s.c).wrapping_add(word(s.p)).wrapping_add(tasks::misses(t, v) as u64)
+    word(s.c)
+        .wrapping_add(word(s.p))
+        .wrapping_add(tasks::misses(t, v) as u64)
 }
 
 // How many ticks there are.
