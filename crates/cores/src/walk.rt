@@ -78,7 +78,11 @@ fn ranks(places: [u16; 8]) -> [u16; 8]
 fn ranks_singly(places: [u16; 8]) -> [u16; 8]
     ensures { result ≡ eight (rank places 8) }
 {
-    array::from_fn(|i| count_before(places, i))
+    let mut out = [0u16; 8];
+    for i in 0..8 {
+        out[i] = count_before(places, i);
+    }
+    out
 }
 
 // The tasks chosen, and with them those of the rank that have no processor yet. Without that question the compiler makes vectors of several

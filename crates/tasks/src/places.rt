@@ -58,7 +58,11 @@ impl State {
     fn ages(self, t: Table) -> [i16; 8]
         ensures { result ≡ eight (age t self) }
     {
-        array::from_fn(|i| self.age(t, i))
+        let mut ages = [0i16; 8];
+        for i in 0..8 {
+            ages[i] = self.age(t, i);
+        }
+        ages
     }
 
     // For each task, how many go before it.
@@ -68,19 +72,15 @@ impl State {
         count_earlier(self.keys(t), self.ages(t))
     }
 
-    // The place of task i, by how many go before each.
-    fn place(self, t: Table, counts: [u16; 8], i: usize) -> u16
-        requires { (i < 8) × (counts ≡ eight (earlier t self)) }
-        ensures { result ≡ place t self i }
-    {
-        jobs::place_of(0 < self.c[i], self.keeps(t, i), counts[i])
-    }
-
     fn places(self, t: Table) -> [u16; 8]
         ensures { result ≡ eight (place t self) }
     {
         let counts = self.earlier(t);
-        array::from_fn(|i| self.place(t, counts, i))
+        let mut places = [0u16; 8];
+        for i in 0..8 {
+            places[i] = jobs::place_of(0 < self.c[i], self.keeps(t, i), counts[i]);
+        }
+        places
     }
 
     // Steps 2 and 3 of a tick: which tasks run, by a walk that gives out the processors.
@@ -88,6 +88,10 @@ impl State {
         ensures { result ≡ chosen t self }
     {
         let given = cores::assign(self.places(t), u16::from(t.m));
-        array::from_fn(|i| 0 < given[i])
+        let mut run = [false; 8];
+        for i in 0..8 {
+            run[i] = 0 < given[i];
+        }
+        run
     }
 }
