@@ -1,7 +1,5 @@
 -- The bytes stand in the part of the output that they fill. Assumes nothing.
 use mathlib.Core.Path.{refl}
-use native.Mathlib.Omega.{arith}
-use Rattle.std.proofs.Common.{rules}
 use Rattle.lines.proofs.Places.{sets_mid}
 use Rattle.lines.proofs.decimal.put_bytes.Goals as goal
 
