@@ -1,17 +1,17 @@
 -- The lines and their lengths. Assumes nothing.
 use Prim.Native.Nat.{ℕ, zero, suc, ◌+◌, ◌*◌, ◌≤◌, ◌<◌}
-use mathlib.Core.Path.{◌≡◌, sym, ap, ◌∙◌}
+use mathlib.Core.Path.{◌≡◌, ap, ◌∙◌}
 use mathlib.Core.List.{List, [], ◌∷◌, ◌++◌}
 use native.Mathlib.Omega.{arith}
 use native.Mathlib.Numerals.{add-one}
-use lib.Dec.{ltb}
 use lib.ListN.{length, get_or, take, drop, length-append}
 use lib.Seq.{drop-cons, drop-length, sets, sets-eq}
-use borrow.Author.Tests.{lt-ltb, le-ltb, ltb-true, ltb-false}
-use Rattle.tasks.specs.declared.writer.Writing.TheVariants as Writing
-use Rattle.lists.proofs.Bools.{by_bool}
-use Rattle.search.specs.declared.run.SearchAnswer.{SearchAnswer}
-use Rattle.search.specs.declared.run.SearchAnswer.TheVariants.{Safe, Unsafe, NoRoom, Refused}
+use borrow.Author.Tests.{lt-ltb, le-ltb}
+use Rattle.std.specs.Prelude.{Result, Ok, Err}
+use Rattle.tasks.specs.Refusals.{refusal_number}
+use Rattle.tasks.specs.declared.refusal.Refusal.{Refusal}
+use Rattle.search.specs.declared.run.Verdict.{Verdict}
+use Rattle.search.specs.declared.run.Verdict.TheVariants.{Safe, Unsafe, NoRoom}
 use Rattle.lines.specs.Lines.{decimal, line, unsafe_word, blank, first_line, mask_lines, masks_given, lines_of, lines_writing, lines_out}
 use Rattle.lines.proofs.Digits.{decimal_byte}
 
@@ -22,22 +22,22 @@ unfolding line
 line_length word x =
     length-append (word ++ decimal x) (10 ∷ []) ∙ ap (λ n. n + 1) (length-append word (decimal x))
 
-pub safe_length : (n : ℕ) → length (first_line (Safe n)) ≡ 5 + length (decimal n) + 1
+pub safe_length : (n : ℕ) → length (first_line (Ok (Safe n))) ≡ 5 + length (decimal n) + 1
 unfolding first_line
 safe_length n = line_length _ n
 
-pub unsafe_length : (l n : ℕ) → length (first_line (Unsafe l n)) ≡ 7 + length (decimal l) + 1 + length (decimal n) + 1
+pub unsafe_length : (l n : ℕ) → length (first_line (Ok (Unsafe l n))) ≡ 7 + length (decimal l) + 1 + length (decimal n) + 1
 unfolding first_line
 unsafe_length l n =
     omega (arith, length-append (unsafe_word ++ decimal l) (line blank n), length-append unsafe_word (decimal l), line_length blank n)
 
-pub room_length : (n : ℕ) → length (first_line (NoRoom n)) ≡ 5 + length (decimal n) + 1
+pub room_length : (n : ℕ) → length (first_line (Ok (NoRoom n))) ≡ 5 + length (decimal n) + 1
 unfolding first_line
 room_length n = line_length _ n
 
-pub refused_length : (r : ℕ) → length (first_line (Refused r)) ≡ 8 + length (decimal r) + 1
+pub refused_length : (r : Refusal) → length (first_line (Err r)) ≡ 8 + length (decimal (refusal_number r)) + 1
 unfolding first_line
-refused_length r = line_length _ r
+refused_length r = line_length _ (refusal_number r)
 
 -- ---- the masks, one after the other
 
@@ -55,21 +55,21 @@ masks_longer masks i h =
 
 -- ---- all lines
 
-module _ (a : SearchAnswer) (trace : List ℕ) where
+module _ (a : Result Verdict Refusal) (trace : List ℕ) where
   pub lines_length : length (lines_of a trace) ≡ length (first_line a) + length (mask_lines (masks_given a trace))
   unfolding lines_of
   lines_length = length-append (first_line a) (mask_lines (masks_given a trace))
 
   module _ (out : List ℕ) where
     -- the output is too short
-    pub lines_short : length out < length (lines_of a trace) → (Writing.Refused 12 ≡ lines_writing a trace out) × (out ≡ lines_out a trace out)
+    pub lines_short : length out < length (lines_of a trace) → (Err Refusal.ShortOutput ≡ lines_writing a trace out) × (out ≡ lines_out a trace out)
     unfolding lines_writing lines_out
     lines_short h = let e = lt-ltb (length out) (length (lines_of a trace)) h in (rw e, rw e)
 
     -- the lines stand at its front
     pub lines_fit :
         length (lines_of a trace) ≤ length out
-        → (Writing.Written (length (lines_of a trace)) ≡ lines_writing a trace out) × (lines_of a trace ++ drop (length (lines_of a trace)) out ≡ lines_out a trace out)
+        → (Ok (length (lines_of a trace)) ≡ lines_writing a trace out) × (lines_of a trace ++ drop (length (lines_of a trace)) out ≡ lines_out a trace out)
     unfolding lines_writing lines_out
     lines_fit h = let e = le-ltb (length out) (length (lines_of a trace)) h in (rw e, rw e)
 
@@ -77,34 +77,6 @@ module _ (a : SearchAnswer) (trace : List ℕ) where
     lines_stored h =
         let z : 0 + length (lines_of a trace) ≡ length (lines_of a trace) = omega arith in
         sets-eq (lines_of a trace) out 0 (omega arith) ∙ ap (λ n. lines_of a trace ++ drop n out) z ∙ (lines_fit h).1
-
-    -- what the answer says
-    written_long : {n : ℕ} → Writing.Written n ≡ lines_writing a trace out → (n ≡ length (lines_of a trace)) × (length (lines_of a trace) ≤ length out)
-    unfolding lines_writing
-    written_long {n} e =
-        by_bool (ltb (length out) (length (lines_of a trace)))
-        (λ h.
-        let q : Writing.Written n ≡ Writing.Refused 12 = rw h at e in
-        absurd (let z : ◌≡◌ {A = ℕ} 0 1 = cc in omega arith))
-        (λ h.
-        let q : Writing.Written n ≡ Writing.Written (length (lines_of a trace)) = rw h at e in
-        (cc, ltb-false (length out) (length (lines_of a trace)) h))
-
-    pub written_text :
-        {n : ℕ} {out' : List ℕ} → Writing.Written n ≡ lines_writing a trace out → out' ≡ lines_out a trace out
-        → (n ≡ length (lines_of a trace)) × (out' ≡ lines_of a trace ++ drop n out)
-    written_text e q =
-        let w = written_long e in
-        (w.0, q ∙ sym (lines_fit w.1).1 ∙ ap (λ k. lines_of a trace ++ drop k out) (sym w.0))
-
-    pub refused_short : {r : ℕ} → Writing.Refused r ≡ lines_writing a trace out → length out < length (lines_of a trace)
-    unfolding lines_writing
-    refused_short {r} e =
-        by_bool (ltb (length out) (length (lines_of a trace)))
-        (λ h. ltb-true (length out) (length (lines_of a trace)) h)
-        (λ h.
-        let q : Writing.Refused r ≡ Writing.Written (length (lines_of a trace)) = rw h at e in
-        absurd (let z : ◌≡◌ {A = ℕ} 0 1 = cc in omega arith))
 
 -- ---- how long the lines can be
 
@@ -117,13 +89,13 @@ masks_most (suc l) (m ∷ ms) byte =
     omega
     (arith, length-append (line [] m) (mask_lines (take l ms)), line_length [] m, decimal_byte m (byte 0), masks_most l ms (λ i. byte (suc i)))
 
-given_most : (a : SearchAnswer) (trace : List ℕ) → ((i : ℕ) → get_or trace i 0 < 256) → length (mask_lines (masks_given a trace)) ≤ 4 * length trace
+given_most : (a : Result Verdict Refusal) (trace : List ℕ) → ((i : ℕ) → get_or trace i 0 < 256) → length (mask_lines (masks_given a trace)) ≤ 4 * length trace
 unfolding masks_given mask_lines
-given_most (Safe n) trace byte = omega arith
-given_most (Unsafe l n) trace byte = masks_most l trace byte
-given_most (NoRoom n) trace byte = omega arith
-given_most (Refused r) trace byte = omega arith
+given_most (Ok (Safe n)) trace byte = omega arith
+given_most (Ok (Unsafe l n)) trace byte = masks_most l trace byte
+given_most (Ok (NoRoom n)) trace byte = omega arith
+given_most (Err r) trace byte = omega arith
 
 -- LAW: the lines of an answer with a trace blank of n bytes
-pub lines_most : (a : SearchAnswer) (trace : List ℕ) → length (first_line a) ≤ 60 → ((i : ℕ) → get_or trace i 0 < 256) → length (lines_of a trace) ≤ 60 + 4 * length trace
+pub lines_most : (a : Result Verdict Refusal) (trace : List ℕ) → length (first_line a) ≤ 60 → ((i : ℕ) → get_or trace i 0 < 256) → length (lines_of a trace) ≤ 60 + 4 * length trace
 lines_most a trace h byte = omega (arith, lines_length a trace, given_most a trace byte)

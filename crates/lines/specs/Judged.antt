@@ -1,13 +1,14 @@
 -- What the program `verdict` prints for its input (document 01, "Benchmark tables").
-use Rattle.std.specs.Prelude.{◌≡◌, ℕ, List, ◌++◌, length, drop, replicate}
+use Rattle.std.specs.Prelude.{◌≡◌, ℕ, List, ◌++◌, length, drop, replicate, Result}
+use Rattle.tasks.specs.declared.refusal.Refusal.{Refusal}
 use Rattle.search.specs.Claim.{figures, SheetSearch}
-use Rattle.search.specs.declared.run.SearchAnswer.{SearchAnswer}
+use Rattle.search.specs.declared.run.Verdict.{Verdict}
 use Rattle.lines.specs.Lines.{lines_of}
 
 -- the sheet is searched with 65,520 bytes of work and 8,192 of trace, all 0 before; the first n bytes of the output are the lines of
 -- the answer, and later ones stay
 pub record Judged (sheet out out' : List ℕ) (n : ℕ) : Type 0 where
-  pub answer : SearchAnswer
+  pub answer : Result Verdict Refusal
   pub work' : List ℕ
   pub trace' : List ℕ
   pub search : SheetSearch sheet (replicate 65520 0) work' (replicate 8192 0) trace' (figures answer)

@@ -1,9 +1,10 @@
 -- The lines of a verdict (document 01, "Benchmark tables"), as bytes: `safe N`, `unsafe L N` then one mask a line, `room K`, or `refused R`.
-use Rattle.std.specs.Prelude.{ℕ, zero, suc, ◌+◌, ◌/◌, ◌%◌, List, [], ◌∷◌, ◌++◌, ltb, length, take, drop}
+use Rattle.std.specs.Prelude.{ℕ, zero, suc, ◌+◌, ◌/◌, ◌%◌, List, [], ◌∷◌, ◌++◌, ltb, length, take, drop, Result, Ok, Err}
 use Rattle.lists.specs.Lists.{pick}
-use Rattle.tasks.specs.declared.writer.Writing.{Writing}
-use Rattle.search.specs.declared.run.SearchAnswer.{SearchAnswer}
-use Rattle.search.specs.declared.run.SearchAnswer.TheVariants.{Safe, Unsafe, NoRoom, Refused}
+use Rattle.tasks.specs.Refusals.{refusal_number}
+use Rattle.tasks.specs.declared.refusal.Refusal.{Refusal}
+use Rattle.search.specs.declared.run.Verdict.{Verdict}
+use Rattle.search.specs.declared.run.Verdict.TheVariants.{Safe, Unsafe, NoRoom}
 
 -- ---- numbers
 
@@ -39,11 +40,11 @@ abbrev pub blank : List ℕ
 blank = 32 ∷ []
 
 -- the first line of an answer
-unfoldable pub first_line : SearchAnswer → List ℕ
-first_line (Safe n) = line safe_word n
-first_line (Unsafe l n) = (unsafe_word ++ decimal l) ++ line blank n
-first_line (NoRoom n) = line room_word n
-first_line (Refused r) = line refused_word r
+unfoldable pub first_line : Result Verdict Refusal → List ℕ
+first_line (Ok (Safe n)) = line safe_word n
+first_line (Ok (Unsafe l n)) = (unsafe_word ++ decimal l) ++ line blank n
+first_line (Ok (NoRoom n)) = line room_word n
+first_line (Err r) = line refused_word (refusal_number r)
 
 -- one mask a line
 unfoldable pub mask_lines : List ℕ → List ℕ
@@ -51,24 +52,24 @@ mask_lines [] = []
 mask_lines (mask ∷ masks) = line [] mask ++ mask_lines masks
 
 -- the masks that an answer gives: under Unsafe the first L of the trace blank
-unfoldable pub masks_given : SearchAnswer → List ℕ → List ℕ
-masks_given (Safe n) trace = []
-masks_given (Unsafe l n) trace = take l trace
-masks_given (NoRoom n) trace = []
-masks_given (Refused r) trace = []
+unfoldable pub masks_given : Result Verdict Refusal → List ℕ → List ℕ
+masks_given (Ok (Safe n)) trace = []
+masks_given (Ok (Unsafe l n)) trace = take l trace
+masks_given (Ok (NoRoom n)) trace = []
+masks_given (Err r) trace = []
 
 -- all lines of an answer
-unfoldable pub lines_of : SearchAnswer → List ℕ → List ℕ
+unfoldable pub lines_of : Result Verdict Refusal → List ℕ → List ℕ
 lines_of a trace = first_line a ++ mask_lines (masks_given a trace)
 
 -- ---- written to an output
 
 -- what is answered: the length, or 12 where the output is shorter
-unfoldable pub lines_writing : SearchAnswer → List ℕ → List ℕ → Writing
+unfoldable pub lines_writing : Result Verdict Refusal → List ℕ → List ℕ → Result ℕ Refusal
 lines_writing a trace out =
-    pick (ltb (length out) (length (lines_of a trace))) (Writing.Refused 12) (Writing.Written (length (lines_of a trace)))
+    pick (ltb (length out) (length (lines_of a trace))) (Err Refusal.ShortOutput) (Ok (length (lines_of a trace)))
 
 -- the output afterwards: the lines at its front, later bytes as they were; a refusal leaves every byte
-unfoldable pub lines_out : SearchAnswer → List ℕ → List ℕ → List ℕ
+unfoldable pub lines_out : Result Verdict Refusal → List ℕ → List ℕ → List ℕ
 lines_out a trace out =
     pick (ltb (length out) (length (lines_of a trace))) out (lines_of a trace ++ drop (length (lines_of a trace)) out)

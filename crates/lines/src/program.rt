@@ -3,19 +3,16 @@ ghost use Rattle.std.specs.Prelude.{◌≡◌, ◌++◌, length, drop};
 ghost use Rattle.lines.specs.Lines.{lines_of};
 ghost use Rattle.lines.specs.Judged.{Judged};
 
-use crate::text::put_lines;
-use search::SearchAnswer;
-use tasks::Writing;
+use crate::text::write_lines;
+use search::Verdict;
+use tasks::Refusal;
 
 // Writes the lines of an answer to an output that has room for every one: a first line, and a line of at most four bytes for each
 // of 8,192 masks. Answers their length.
-fn print_lines(a: SearchAnswer, trace: &[u8; 8192], out: &mut [u8; 32896]) -> usize
+fn print_lines(a: Result<Verdict, Refusal>, trace: &[u8; 8192], out: &mut [u8; 32896]) -> usize
     ensures { (result ≡ length (lines_of a trace.now)) × (out.new ≡ lines_of a trace.now ++ drop result out.old) }
 {
-    match put_lines(a, trace, out) {
-        Writing::Written(n) => n,
-        Writing::Refused(_) => 0,
-    }
+    write_lines(a, trace, out).unwrap_or(0)
 }
 
 // Searches a sheet's table with the spaces that document 01 says, and writes the lines of the answer.

@@ -1,23 +1,20 @@
 -- The lines of every answer fit the output. Assumes nothing.
-use mathlib.Core.Path.{◌≡◌, sym, ◌∙◌}
-use lib.ListN.{length}
-use Rattle.lines.proofs.LineLaws.{written_text, refused_short}
+use mathlib.Core.Path.{◌≡◌, sym, ap, ◌∙◌}
+use mathlib.Core.List.{◌++◌}
+use Prim.Native.Nat.{◌≤◌}
+use lib.ListN.{length, drop}
+use Rattle.std.specs.Result.{result_unwrap_or}
+use Rattle.lines.specs.Lines.{lines_of}
+use Rattle.lines.proofs.LineLaws.{lines_fit}
 use native.Mathlib.Omega.{arith}
-use borrow.Author.Rules.{rules}
 use Rattle.lines.proofs.program.print_lines.Goals as goal
 
-pub returns-in-Written : goal.returns-in-Written
-returns-in-Written c =
+pub returns : goal.returns
+returns c =
     let a = c.args in
-    let put = c.put_lines.ensures in
-    written_text a.a a.trace.now a.out.now (sym c.in-Written.is ∙ put.0) put.1
-
-pub returns-in-Refused : goal.returns-in-Refused
-returns-in-Refused c =
-    let a = c.args in
-    let put = c.put_lines.ensures in
-    let short = refused_short a.a a.trace.now a.out.now (sym c.in-Refused.is ∙ put.0) in
+    let put = c.write_lines.ensures in
     let most = put.2 in
-    let room : length a.out.now ≡ 32896 = search rules in
-    let long : length a.trace.now ≡ 8192 = search rules in
-    absurd (omega arith)
+    let room : length (lines_of a.a a.trace.now) ≤ length a.out.now = omega (arith, c.told-out, c.told-trace) in
+    let fit = lines_fit a.a a.trace.now a.out.now room in
+    let long : c.unwrap_or.result ≡ length (lines_of a.a a.trace.now) = c.unwrap_or.ensures ∙ ap (λ r. result_unwrap_or r 0) (put.0 ∙ sym fit.0) in
+    (long, put.1 ∙ sym fit.1 ∙ ap (λ n. lines_of a.a a.trace.now ++ drop n a.out.now) (sym long))

@@ -1,29 +1,33 @@
 -- The length of each answer's first line. Assumes nothing.
 use mathlib.Core.Path.{◌≡◌, ap, ◌∙◌}
 use lib.ListN.{length}
+use Rattle.tasks.specs.Refusals.{refusal_number}
 use Rattle.lines.specs.Lines.{decimal}
 use Rattle.lines.proofs.LineLaws.{safe_length, unsafe_length, room_length, refused_length}
 use native.Mathlib.Omega.{arith}
 use Rattle.lines.proofs.text.first_len.Goals as goal
 
-pub returns-in-Safe : goal.returns-in-Safe
-returns-in-Safe c =
+pub returns-in-Ok-Safe : goal.returns-in-Ok-Safe
+returns-in-Ok-Safe c =
+    let v = rw c.in-Ok-Safe.is at c.in-Ok-Safe.field-0-is in
     let e = c.decimal_len.ensures in
-    (rw c.in-Safe.is (omega (arith, e.0, safe_length c.in-Safe.n)), omega (arith, e.1))
+    (rw (c.in-Ok-Safe.is, v) (omega (arith, e.0, safe_length c.in-Ok-Safe.n)), omega (arith, e.1))
 
-pub returns-in-Unsafe : goal.returns-in-Unsafe
-returns-in-Unsafe c =
-    let e = c.decimal_len-in-Unsafe-2.ensures in
-    let d = c.decimal_len-in-Unsafe.ensures in
-    (rw c.in-Unsafe.is (omega (arith, e.0, d.0, unsafe_length c.in-Unsafe.l c.in-Unsafe.n)), omega (arith, e.1, d.1))
+pub returns-in-Ok-Unsafe : goal.returns-in-Ok-Unsafe
+returns-in-Ok-Unsafe c =
+    let v = rw c.in-Ok-Unsafe.is at c.in-Ok-Unsafe.field-0-is in
+    let e = c.decimal_len-in-Ok-Unsafe-2.ensures in
+    let d = c.decimal_len-in-Ok-Unsafe.ensures in
+    (rw (c.in-Ok-Unsafe.is, v) (omega (arith, e.0, d.0, unsafe_length c.in-Ok-Unsafe.l c.in-Ok-Unsafe.n)), omega (arith, e.1, d.1))
 
-pub returns-in-NoRoom : goal.returns-in-NoRoom
-returns-in-NoRoom c =
-    let e = c.decimal_len-in-NoRoom.ensures in
-    (rw c.in-NoRoom.is (omega (arith, e.0, room_length c.in-NoRoom.n)), omega (arith, e.1))
+pub returns-in-Ok-NoRoom : goal.returns-in-Ok-NoRoom
+returns-in-Ok-NoRoom c =
+    let v = rw c.in-Ok-NoRoom.is at c.in-Ok-NoRoom.field-0-is in
+    let e = c.decimal_len-in-Ok-NoRoom.ensures in
+    (rw (c.in-Ok-NoRoom.is, v) (omega (arith, e.0, room_length c.in-Ok-NoRoom.n)), omega (arith, e.1))
 
-pub returns-in-Refused : goal.returns-in-Refused
-returns-in-Refused c =
-    let e = c.decimal_len-in-Refused.ensures in
-    let d : c.decimal_len-in-Refused.result ≡ length (decimal c.in-Refused.r) = e.0 ∙ ap (λ x. length (decimal x)) c.wide.ensures.0 in
-    (rw c.in-Refused.is (omega (arith, refused_length c.in-Refused.r)), omega (arith, e.1))
+pub returns-in-Err : goal.returns-in-Err
+returns-in-Err c =
+    let e = c.decimal_len-in-Err.ensures in
+    let d : c.decimal_len-in-Err.result ≡ length (decimal (refusal_number c.in-Err.why)) = e.0 ∙ ap (λ x. length (decimal x)) (c.from.ensures ∙ c.number.ensures) in
+    (rw c.in-Err.is (omega (arith, refused_length c.in-Err.why)), omega (arith, e.1))

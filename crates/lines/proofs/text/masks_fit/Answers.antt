@@ -17,7 +17,7 @@ returns-then-left-n c =
     let turn = (let it : length (mask_lines (drop c.loop-mask.mask-index c.args.masks.now))
     ≡ c.decimal_len-n.result + 1 + length (mask_lines (drop (c.loop-mask.mask-index + 1) c.args.masks.now)) = let masks = c.args.masks.now in
     let i = c.loop-mask.mask-index in
-    let d : c.decimal_len-n.result ≡ length (decimal (get_or masks i 0)) = c.decimal_len-n.ensures.0 ∙ ap (λ x. length (decimal x)) c.wide.ensures.0 in
+    let d : c.decimal_len-n.result ≡ length (decimal (get_or masks i 0)) = c.decimal_len-n.ensures.0 ∙ ap (λ x. length (decimal x)) c.from.ensures in
     masks_longer masks i (omega arith) ∙ ap (λ n. n + 1 + length (mask_lines (drop (i + 1) masks))) (sym d) in it) in
     sym (lt-leb (length (mask_lines c.args.masks.now)) c.args.room (omega (arith, l.invariant)))
 
@@ -28,7 +28,7 @@ loop-mask-preserved c =
     let turn = (let it : length (mask_lines (drop c.loop-mask.mask-index c.args.masks.now))
     ≡ c.decimal_len-n.result + 1 + length (mask_lines (drop (c.loop-mask.mask-index + 1) c.args.masks.now)) = let masks = c.args.masks.now in
     let i = c.loop-mask.mask-index in
-    let d : c.decimal_len-n.result ≡ length (decimal (get_or masks i 0)) = c.decimal_len-n.ensures.0 ∙ ap (λ x. length (decimal x)) c.wide.ensures.0 in
+    let d : c.decimal_len-n.result ≡ length (decimal (get_or masks i 0)) = c.decimal_len-n.ensures.0 ∙ ap (λ x. length (decimal x)) c.from.ensures in
     masks_longer masks i (omega arith) ∙ ap (λ n. n + 1 + length (mask_lines (drop (i + 1) masks))) (sym d) in it) in
     omega (arith, l.invariant)
 

@@ -14,13 +14,13 @@ pub put_line-at-requires : goal.put_line-at-requires
 put_line-at-requires c =
     let l = c.loop-mask in
     let p = rw (masks_turn c.args.masks.now l.mask-index (omega arith)) at l.invariant in
-    rw c.wide.ensures.0 (storing_room (line [] (get_or c.args.masks.now l.mask-index 0)) (mask_lines (drop (l.mask-index + 1) c.args.masks.now)) p)
+    rw c.from.ensures (storing_room (line [] (get_or c.args.masks.now l.mask-index 0)) (mask_lines (drop (l.mask-index + 1) c.args.masks.now)) p)
 
 pub loop-mask-preserved : goal.loop-mask-preserved
 loop-mask-preserved c =
     let l = c.loop-mask in
     let p = rw (masks_turn c.args.masks.now l.mask-index (omega arith)) at l.invariant in
-    let w = rw c.wide.ensures.0 at c.put_line-at.ensures in
+    let w = rw c.from.ensures at c.put_line-at.ensures in
     storing_step (line [] (get_or c.args.masks.now l.mask-index 0)) (mask_lines (drop (l.mask-index + 1) c.args.masks.now)) p w.1 w.0
 
 pub shape_of-out : goal.shape_of-out
