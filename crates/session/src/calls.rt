@@ -8,7 +8,7 @@ use crate::marks::Session;
 use tasks::{Refusal, Step, Table, Ticked};
 
 // What a step answers: the tick's answer and state, and the session after it.
-#[derive(Clone, Copy)]
+#[derive(Clone, Copy, Debug, PartialEq, Eq)]
 pub struct Stepped {
     pub ticked: Ticked,
     pub session: Session,
@@ -23,7 +23,7 @@ pub enum Call {
 }
 
 // The answer of a call, and the session after it. A call that is done is Next, and only a step is Missed.
-#[derive(Clone, Copy)]
+#[derive(Clone, Copy, Debug, PartialEq, Eq)]
 pub struct Called {
     pub answer: Result<Step, Refusal>,
     pub session: Session,

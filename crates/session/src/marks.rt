@@ -9,7 +9,7 @@ ghost use Rattle.session.specs.Session.{fresh, mark_at, first_of, beyond, never_
 use tasks::{Refusal, State, Table};
 
 // The present state, and marks 1 to 8: the state under each, where it is set.
-#[derive(Clone, Copy)]
+#[derive(Clone, Copy, Debug, PartialEq, Eq)]
 pub struct Session {
     pub present: State,
     pub marks: [Option<State>; 8],
