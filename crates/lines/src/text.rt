@@ -74,7 +74,7 @@ fn masks_given(a: Result<Verdict, Refusal>, trace: &[u8]) -> &[u8]
     }
 }
 
-// Writes the lines of an answer to the front of the output, where they fit. A number has at most twenty digits, and a mask's line at most four bytes.
+// Writes the lines of an answer to the front of the output, where they fit: at most 60 bytes, and four more for each mask.
 pub fn write_lines(
     a: Result<Verdict, Refusal>,
     trace: &[u8],
