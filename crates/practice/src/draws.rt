@@ -2,13 +2,7 @@
 ghost use Rattle.std.specs.Prelude.{◌≡◌, ◌+◌, ◌%◌};
 ghost use Rattle.practice.specs.Practice.{drawn};
 
-// The three numbers of a task.
-#[derive(Clone, Copy)]
-pub(crate) struct Task {
-    pub work: u8,
-    pub deadline: u8,
-    pub gap: u8,
-}
+use tasks::Task;
 
 // One draw, which is the new s.
 pub(crate) fn drawn(s: u16) -> u16

@@ -16,7 +16,6 @@ use Rattle.tasks.specs.Sheet.{ruled, field_at, and_then, task_of, task_at, with_
 use Rattle.tasks.specs.declared.table.Table.{Table}
 use Rattle.tasks.proofs.Refusals.{refusal_some, pick_case}
 
-
 -- a value, or one of the refusals 1 to 8
 abbrev Listed : {A : Type 0} → Result A Refusal → Type 0
 Listed (Ok x) = Unit {0}

@@ -8,7 +8,7 @@ use crate::table::{LAST_POLICY, Table, breaks};
 
 // The three numbers of a task.
 #[derive(Clone, Copy, Debug, PartialEq, Eq)]
-pub(crate) struct Task {
+pub struct Task {
     pub work: u8,
     pub deadline: u8,
     pub gap: u8,

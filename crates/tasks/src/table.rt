@@ -5,7 +5,6 @@ ghost use Rattle.tasks.specs.Refusals.{unless_refused};
 ghost use Rattle.tasks.specs.Table.{outside, breaks, fault_at, table_fault};
 
 use crate::refusal::Refusal;
-use crate::widths::wide;
 
 // The last policy.
 pub(crate) const LAST_POLICY: usize = 4;
