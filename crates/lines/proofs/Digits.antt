@@ -1,13 +1,11 @@
 -- A number in decimal, digit by digit. Assumes nothing.
-use Prim.Native.Nat.{ℕ, zero, suc, ◌+◌, ◌*◌, ◌/◌, ◌%◌, ◌≤◌, ◌<◌, ◌^◌}
-use mathlib.Core.Path.{◌≡◌, refl, sym, ap, ◌∙◌}
+use Prim.Native.Nat.{ℕ, zero, suc, ◌+◌, ◌*◌, ◌/◌, ◌%◌, ◌≤◌, ◌<◌}
+use mathlib.Core.Path.{◌≡◌, refl, ap, ◌∙◌}
 use mathlib.Core.List.{List, [], ◌∷◌, ◌++◌}
 use native.Mathlib.Omega.{arith}
 use native.Mathlib.Decide.{dec_lt}
 use lib.ListN.{length, length-append}
 use borrow.Author.Tests.{lt-ltb, le-ltb}
-use Rattle.std.specs.Fmt as Fmt
-use Rattle.std.proofs.lemmas.Fmt.{AppendsLastDigit, decimal_from_appends, length-decimal-le}
 use Rattle.lines.specs.Lines.{digits_in, decimal}
 
 -- x itself is enough for the digits' number
@@ -39,6 +37,13 @@ decimal_longer x h = ap length (decimal_more x h) ∙ length-append (decimal (x 
 pub decimal_single : (x : ℕ) → x < 10 → length (decimal x) ≡ 1
 decimal_single x h = ap length (decimal_one x h)
 
+pub decimal_some : (x : ℕ) → 1 ≤ length (decimal x)
+decimal_some x =
+    elim (dec_lt x 10) [
+      | yes q ↦ omega (arith, decimal_single x q)
+      | no q ↦ omega (arith, decimal_longer x (omega arith))
+    ]
+
 -- 10 to the power k
 abbrev limit : ℕ → ℕ
 limit zero = 1
@@ -58,16 +63,3 @@ decimal_word x h = digits_most 19 x (omega arith)
 
 pub decimal_byte : (x : ℕ) → x < 256 → length (decimal x) ≤ 3
 decimal_byte x h = digits_most 2 x (omega arith)
-
-digits_append : AppendsLastDigit digits_in
-unfolding digits_in
-digits_append = record {
-  one = λ k n h. rw (lt-ltb n 10 h);
-  more = λ k n h. rw (le-ltb n 10 h);
-}
-
--- std writes the same digits
-pub decimal_std : (x : ℕ) → x < 2 ^ 64 → Fmt.decimal x ≡ decimal x
-unfolding decimal
-decimal_std x h =
-    sym (decimal_from_appends digits_in digits_append (x + 20) x h (omega (arith, length-decimal-le 20 x (omega arith) (omega arith) h))) ∙ enough (x + 20) x x (omega arith) (omega arith)

@@ -3,14 +3,17 @@ ghost use Rattle.std.specs.Prelude.{◌≡◌, ◌+◌, ◌≤◌, ◌++◌, len
 ghost use Rattle.std.proofs.lemmas.List.Edits.{sets};
 ghost use Rattle.lines.specs.Lines.{decimal, line};
 
-use itoa::Buffer;
-
 // How many digits a number has.
 pub(crate) fn decimal_len(x: usize) -> usize
     ensures { (result ≡ length (decimal x)) × (result ≤ 20) }
 {
-    let mut buffer = Buffer::new();
-    buffer.format(x).len()
+    let mut rest = x;
+    let mut n: usize = 1;
+    while 10 <= rest {
+        rest /= 10;
+        n += 1;
+    }
+    n
 }
 
 // Writes some bytes, and answers the place after them.
@@ -23,13 +26,21 @@ fn put_bytes(out: &mut [u8], at: usize, s: &[u8]) -> usize
     end
 }
 
-// Writes a number, and answers the place after it.
+// Writes a number, its last digit first, and answers the place after it.
 fn put_decimal(out: &mut [u8], at: usize, x: usize) -> usize
     requires { at + length (decimal x) ≤ length out.old }
     ensures { (result ≡ at + length (decimal x)) × (out.new ≡ sets out.old at (decimal x)) }
 {
-    let mut buffer = Buffer::new();
-    put_bytes(out, at, buffer.format(x).as_bytes())
+    let end = at + decimal_len(x);
+    let mut rest = x;
+    let mut i = end - 1;
+    while 10 <= rest {
+        out[i] = (48 + rest % 10) as u8;
+        rest /= 10;
+        i -= 1;
+    }
+    out[i] = (48 + rest) as u8;
+    end
 }
 
 // Writes a word and a number, and answers the place after them.

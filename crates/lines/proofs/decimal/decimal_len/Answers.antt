@@ -1,12 +1,19 @@
--- The digits are those that std writes. Assumes nothing.
-use mathlib.Core.Path.{ap, ◌∙◌}
-use lib.ListN.{length}
+use mathlib.Core.Path.{refl}
+use Rattle.lines.proofs.Digits.{decimal_word, decimal_some, decimal_longer, decimal_single}
 use native.Mathlib.Omega.{arith}
-use Rattle.lines.proofs.Digits.{decimal_word, decimal_std}
 use Rattle.lines.proofs.decimal.decimal_len.Goals as goal
 
+pub loop-rest-init : goal.loop-rest-init
+loop-rest-init c = (refl, decimal_word c.args.x (omega arith))
+
+pub overflow_add-n : goal.overflow_add-n
+overflow_add-n c = omega (arith, decimal_some c.loop-rest.rest)
+
+pub loop-rest-smaller : goal.loop-rest-smaller
+loop-rest-smaller c = omega arith
+
+pub loop-rest-preserved : goal.loop-rest-preserved
+loop-rest-preserved c = (omega (arith, decimal_longer c.loop-rest.rest c.loop-rest-test.true), c.loop-rest.invariant.1)
+
 pub returns : goal.returns
-returns c =
-    let x = c.args.x in
-    let e = ap length (c.format.ensures.text ∙ decimal_std x (omega arith)) in
-    (e, omega (arith, decimal_word x (omega arith), e))
+returns c = let one = decimal_single c.loop-rest.rest c.loop-rest-test.false in (omega arith, omega arith)

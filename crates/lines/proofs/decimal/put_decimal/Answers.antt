@@ -1,19 +1,63 @@
--- The digits are those that std writes. Assumes nothing.
-use Prim.Native.Nat.{◌+◌}
-use mathlib.Core.Path.{◌≡◌, ap, ◌∙◌}
-use lib.ListN.{length}
+use Prim.Native.Nat.{◌+◌, ◌/◌, ◌%◌}
+use mathlib.Core.Path.{◌≡◌, refl, sym, ap, ◌∙◌}
+use lib.ListN.{length-set}
 use lib.Seq.{sets}
-use native.Mathlib.Omega.{arith}
 use Rattle.lines.specs.Lines.{decimal}
-use Rattle.lines.proofs.Digits.{decimal_std}
+use Rattle.lines.proofs.Digits.{decimal_some, decimal_longer, decimal_single, decimal_more, decimal_one}
+use Rattle.lines.proofs.Places.{sets_last}
+use native.Mathlib.Omega.{arith}
 use Rattle.lines.proofs.decimal.put_decimal.Goals as goal
 
-pub put_bytes-requires : goal.put_bytes-requires
-put_bytes-requires c =
-    let text : c.as_bytes.result.now ≡ decimal c.args.x = c.as_bytes.ensures.value ∙ c.format.ensures.text ∙ decimal_std c.args.x (omega arith) in
-    rw text c.requires
+pub overflow_add-end : goal.overflow_add-end
+overflow_add-end c = let e = c.decimal_len.ensures.0 in let p = c.requires in omega arith
+
+pub overflow_sub-i : goal.overflow_sub-i
+overflow_sub-i c = omega (arith, c.decimal_len.ensures.0, decimal_some c.args.x)
+
+pub loop-rest-init : goal.loop-rest-init
+loop-rest-init c =
+    let e = c.decimal_len.ensures.0 in
+    let p = c.requires in
+    let some = decimal_some c.args.x in
+    (refl, omega arith, refl, omega arith)
+
+pub bounds-out-i : goal.bounds-out-i
+bounds-out-i c = c.loop-rest.invariant.3
+
+pub overflow_sub-i-in-loop-rest : goal.overflow_sub-i-in-loop-rest
+overflow_sub-i-in-loop-rest c =
+    let rest = c.loop-rest.rest in
+    omega (arith, c.loop-rest.invariant.1, decimal_longer rest c.loop-rest-test.true, decimal_some (rest / 10))
+
+pub loop-rest-smaller : goal.loop-rest-smaller
+loop-rest-smaller c = omega arith
+
+pub loop-rest-preserved : goal.loop-rest-preserved
+loop-rest-preserved c =
+    let l = c.loop-rest in
+    let rest = l.rest in
+    let at = c.args.at in
+    let big = c.loop-rest-test.true in
+    let longer = decimal_longer rest big in
+    let some = decimal_some (rest / 10) in
+    let place = l.invariant.1 in (
+      sym (sets_last (decimal (rest / 10)) l.out at l.i (48 + rest % 10) (omega arith)) ∙ ap (sets l.out at) (sym (decimal_more rest big)) ∙ l.invariant.0,
+      omega arith,
+      simp length-set l.invariant.2,
+      simp length-set (let h = l.invariant.3 in omega arith),
+    )
+
+pub bounds-out-i-2 : goal.bounds-out-i-2
+bounds-out-i-2 c = c.loop-rest.invariant.3
+
+pub shape_of-out : goal.shape_of-out
+shape_of-out c = simp length-set c.loop-rest.invariant.2
 
 pub returns : goal.returns
 returns c =
-    let text : c.as_bytes.result.now ≡ decimal c.args.x = c.as_bytes.ensures.value ∙ c.format.ensures.text ∙ decimal_std c.args.x (omega arith) in
-    (c.put_bytes.ensures.0 ∙ ap (λ s. c.args.at + length s) text, c.put_bytes.ensures.1 ∙ ap (sets c.args.out.now c.args.at) text)
+    let l = c.loop-rest in
+    let rest = l.rest in
+    let at = c.args.at in
+    let small = c.loop-rest-test.false in
+    let e : l.i ≡ at = omega (arith, l.invariant.1, decimal_single rest small) in
+    (ap (λ n. at + n) c.decimal_len.ensures.0, rw e (ap (sets l.out at) (sym (decimal_one rest small)) ∙ l.invariant.0))
