@@ -1,32 +1,46 @@
 -- The marks of a session, one by one. Assumes nothing.
-use Prim.Native.Nat.{ℕ, ◌+◌, ◌-◌, ◌≤◌}
+use Prim.Native.Nat.{ℕ, ◌+◌, ◌-◌, ◌≤◌, ◌<◌}
 use mathlib.Core.Path.{◌≡◌, refl, sym, ap, ◌∙◌}
-use mathlib.Core.Bool.{Bool, true, false}
+use mathlib.Core.Bool.{Bool, false}
 use mathlib.Core.List.{List, map}
 use native.Mathlib.Omega.{arith}
 use native.Mathlib.Decide.{ℕ_discrete}
 use lib.Dec.{eqb, ltb}
 use lib.ListN.{length, get_or, set, length-set, length-map}
 use lib.Seq.{ext_get_or, get_or-set_same, get_or-set_other}
-use borrow.Author.Tests.{ltb-true, ltb-false, eq-eqb, ne_eqb}
-use Rattle.std.specs.Prelude.{Option, Some, None, is_some, IfSome, MatchOption}
+use borrow.Author.Tests.{ltb-false, eq-eqb, ne_eqb}
+use Rattle.std.specs.Prelude.{Option, Some, None, Ok, is_some, ok_or, IfSome, MatchOption}
+use Rattle.std.specs.Option.{unwrap_or}
 use Rattle.lists.specs.Lists.{eight, pick}
 use Rattle.tasks.specs.Table.{outside}
 use Rattle.tasks.specs.State.{improper}
+use Rattle.tasks.specs.Refusals.{refusal_at, unless_refused}
+use Rattle.tasks.specs.declared.refusal.Refusal.TheVariants.{MarkUnset}
 use Rattle.tasks.specs.declared.state.State.{State}
 use Rattle.tasks.specs.declared.table.Table.{Table}
-use Rattle.session.specs.Session.{improper_stored}
-use Rattle.lists.proofs.Bools.{or_cases, nor_left, nor_right}
+use Rattle.session.specs.Session.{mark_in, mark_at, improper_stored, beyond, never_set}
+use Rattle.session.specs.declared.marks.Session.{Session}
+use Rattle.lists.proofs.Bools.{by_bool, nor_left, nor_right}
 use Rattle.lists.proofs.Picks.{pick_yes, pick_no}
 use Rattle.lists.proofs.Fill.{eight_at}
+use Rattle.tasks.proofs.Refusals.{accepted_unless}
 
 -- a number of a mark
 pub within : (k : ℕ) → outside k ≡ false → (1 ≤ k) × (k ≤ 8)
 within k e = (omega (arith, ltb-false k 1 (nor_left (ltb k 1) (ltb 8 k) e)), omega (arith, ltb-false 8 k (nor_right (ltb k 1) (ltb 8 k) e)))
 
-pub without : {X : Type 0} (k : ℕ) → outside k ≡ true → 1 ≤ k → k ≤ 8 → X
-without k e low high =
-    absurd (or_cases (ltb k 1) (ltb 8 k) e (λ h. omega (arith, ltb-true k 1 h)) (λ _ h. omega (arith, ltb-true 8 k h)))
+-- 15 does not apply
+pub not_beyond : (k : ℕ) → beyond k ≡ 0 → outside k ≡ false
+unfolding beyond
+not_beyond k e = by_bool (outside k) (λ h. absurd (let z = rw h at e in omega arith)) (λ h. h)
+
+-- the place of a mark
+pub place_at : (k : ℕ) {i : ℕ} → unless_refused (beyond k) (k - 1) ≡ Ok i → (outside k ≡ false) × (i ≡ k - 1) × (i < 8)
+place_at k e =
+    let f = accepted_unless (beyond k) (k - 1) e in
+    let here = not_beyond k f.0 in
+    let range = within k here in
+    (here, f.1, omega arith)
 
 -- what an array of structs tells of its length, for `search`
 pub length_mapped : (X Y : Type 0) (f : X → Y) (l : List X) (n : ℕ) → length (map f l) ≡ n → length l ≡ n
@@ -36,6 +50,13 @@ length_mapped X Y f l n e = sym (length-map l f) ∙ e
 pub by_stored : {X : Type 0} (o : Option State) → (o ≡ None → X) → ((s : State) → o ≡ Some s → X) → X
 by_stored None f g = f refl
 by_stored (Some s) f g = g s refl
+
+-- the state under a mark, or 16
+pub stored_or :
+    (x : Session) (k : ℕ) → outside k ≡ false
+    → ok_or (mark_in x (k - 1)) MarkUnset ≡ unless_refused (never_set x k) (unwrap_or (mark_at x k) x.present)
+unfolding never_set unless_refused refusal_at mark_at
+stored_or x k e = by_stored (mark_in x (k - 1)) (λ q. rw (e, q)) (λ s q. rw (e, q))
 
 -- what is stored where a test holds
 pub stored_where :
@@ -61,12 +82,6 @@ module _ {A : Type 0} (d v : A) (l : List A) (len : length l ≡ 8) where
 
   stored_there : (k i : ℕ) → (i + 1 ≡ k → ⊥) → get_or l i d ≡ stored k i
   stored_there k i ne = pick_no _ (ne_eqb (i + 1) k ne) refl
-
-  -- a number that is no mark's stores nothing
-  pub stores_none : (k : ℕ) → outside k ≡ true → l ≡ eight (stored k)
-  stores_none k e =
-      ext_get_or d l (eight (stored k)) len
-      (λ i h. stored_there k i (λ q. without k e (omega arith) (omega arith)) ∙ sym (eight_at d (stored k) i (omega arith)))
 
   pub stores_one : (k : ℕ) → outside k ≡ false → set l (k - 1) v ≡ eight (stored k)
   stores_one k e =

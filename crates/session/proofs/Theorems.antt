@@ -6,7 +6,7 @@ use mathlib.Core.List.{List, [], ◌∷◌, ◌++◌}
 use native.Mathlib.Omega.{arith}
 use native.Mathlib.Decide.{ℕ_discrete}
 use lib.Dec.{eqb, ltb}
-use Rattle.std.specs.Prelude.{Option, Some, None, is_some}
+use Rattle.std.specs.Prelude.{Option, Some, None, is_some, Result, Ok, Err}
 use Rattle.std.specs.Option.{unwrap_or}
 use borrow.Author.Tests.{ltb-true, ltb-false, le-ltb, eq-eqb, ne_eqb}
 use Rattle.lists.specs.Lists.{pick}
@@ -15,24 +15,23 @@ use Rattle.tasks.specs.Tick.{ticked}
 use Rattle.tasks.specs.Replay.{played}
 use Rattle.tasks.specs.declared.state.State.{State}
 use Rattle.tasks.specs.declared.table.Table.{Table}
-use Rattle.tasks.specs.declared.tick.TickAnswer.{TickAnswer}
-use Rattle.tasks.specs.declared.tick.TickAnswer.TheVariants as Tick
-use Rattle.session.specs.Session.{empty, fresh, mark_in, mark_at, first_of, improper_stored, improper_mark, improper_session, session_fault, beyond, never_set, set_refusal, return_refusal, step_tick, moved, after_tick, stepped, marked, unless_refused, mark_set, returned, step_answer, call_answer, called}
-use Rattle.session.specs.Record.{Stored, Record, blank, stored_under, brought_back, noted, session_after, record_after, KeptAs, MarkOnRecord, OnRecord}
+use Rattle.tasks.specs.declared.tick.Step.{Step}
+use Rattle.tasks.specs.declared.refusal.Refusal.{Refusal}
+use Rattle.tasks.specs.declared.refusal.Refusal.TheVariants.{Improper}
+use Rattle.tasks.specs.Refusals.{refusal_at, unless_refused}
+use Rattle.session.specs.Session.{empty, fresh, mark_in, mark_at, first_of, improper_stored, improper_mark, improper_session, session_fault, beyond, never_set, set_refusal, return_refusal, step_tick, moved, after_tick, stepped, marked, settled, mark_set, returned, call_answer, called}
+use Rattle.session.specs.Record.{Stored, Record, blank, stored_under, brought_back, note_done, noted, session_after, record_after, KeptAs, MarkOnRecord, OnRecord}
 use Rattle.session.specs.Record.Stored.{Nothing, Listed}
 use Rattle.session.specs.declared.marks.Session.{Session}
-use Rattle.session.specs.declared.calls.SessionAnswer.{SessionAnswer}
-use Rattle.session.specs.declared.calls.SessionAnswer.TheVariants.{Done, Refused}
 use Rattle.session.specs.declared.calls.Call.{Call}
-use Rattle.session.specs.declared.calls.Call.TheVariants.{Step, SetMark, ReturnTo}
-use Rattle.session.specs.declared.calls.Called.{Called}
 use Rattle.lists.proofs.Bools.{by_bool, clash}
 use Rattle.lists.proofs.Counts.{none_any}
 use Rattle.lists.proofs.Picks.{pick_yes, pick_no}
 use Rattle.lists.proofs.Fill.{eight_at}
 use Rattle.tasks.proofs.Played.{tick_eleven, replayed_played}
 use Rattle.tasks.proofs.Joined.{kept_proper, kept_more}
-use Rattle.session.proofs.MarkLaws.{within}
+use Rattle.session.proofs.MarkLaws.{within, not_beyond}
+use Rattle.tasks.proofs.Refusals.{refused_unless, accepted_unless}
 
 -- ---- refusals
 
@@ -43,48 +42,29 @@ none_of a b e =
     (λ h. absurd (omega (arith, ltb-true 0 a h, rw h at e)))
     (λ h. (omega (arith, ltb-false 0 a h), rw h at e))
 
--- the calls on marks, by their answer: a refusal leaves the session, and without one it is the other
-unless :
-    {X : Type 0} (r : ℕ) (x x' : Session)
-    → (r ≡ 0 → unless_refused r x x' ≡ record { answer = Done; session = x' } → X)
-    → (unless_refused r x x' ≡ record { answer = Refused r; session = x } → X) → X
-unless r x x' f g =
-    by_bool (ltb 0 r)
-    (λ h. g (sym (pick_yes _ h)))
-    (λ h. f (omega (arith, ltb-false 0 r h)) (sym (pick_no _ h refl)))
-
--- a mark is within 1 to 8 where 15 does not apply
-not_beyond : (k : ℕ) → beyond k ≡ 0 → outside k ≡ false
-unfolding beyond
-not_beyond k e = by_bool (outside k) (λ h. absurd (let z = rw h at e in omega arith)) (λ h. h)
-
 was_set : (x : Session) (k : ℕ) → never_set x k ≡ 0 → is_some (mark_at x k) ≡ true
 unfolding never_set
 was_set x k e = by_bool (is_some (mark_at x k)) (λ h. h) (λ h. absurd (let z = rw h at e in omega arith))
 
--- the number that a refused call on marks answers
-refusal_told : (r n : ℕ) (x x' : Session) → (unless_refused r x x').answer ≡ Refused n → r ≡ n
-refusal_told r n x x' q =
-    unless r x x'
-    (λ z e. absurd (let w : ◌≡◌ {A = ℕ} 0 1 = cc (ap (λ a. a.answer) e) in omega arith))
-    (λ e. let w : ◌≡◌ {A = SessionAnswer} (Refused r) (Refused n) = ap (λ a. a.answer) (sym e) ∙ q in cc)
+-- the refusal that a call on marks answers
+refusal_told :
+    (n : ℕ) (x x' : Session) {r : Refusal} (a : Result Session Refusal) → unless_refused n x' ≡ a → (settled x a).answer ≡ Err r
+    → (0 < n) × (refusal_at n ≡ r)
+refusal_told n x x' (Ok y) e q = absurd (let z : ◌≡◌ {A = ℕ} 0 1 = cc in omega arith)
+refusal_told n x x' (Err s) e q = let f = refused_unless n x' e in (f.0, cc)
 
--- 15 and 16 are not 13, nor is 11
-set_not : (k : ℕ) → beyond k ≡ 13 → ⊥
-unfolding beyond
-set_not k e = by_bool (outside k) (λ h. let z = rw h at e in omega arith) (λ h. let z = rw h at e in omega arith)
+-- 15 and 16 are not 13
+set_not : (k : ℕ) → 0 < beyond k → refusal_at (beyond k) ≡ Improper → ⊥
+unfolding beyond refusal_at
+set_not k l e = by_bool (outside k) (λ h. let q = rw h at e in let z : ◌≡◌ {A = ℕ} 0 1 = cc in omega arith) (λ h. let z = rw h at l in omega arith)
 
-never_not : (x : Session) (k : ℕ) → never_set x k ≡ 13 → ⊥
-unfolding never_set
-never_not x k e = by_bool (is_some (mark_at x k)) (λ h. let z = rw h at e in omega arith) (λ h. let z = rw h at e in omega arith)
+never_not : (x : Session) (k : ℕ) → 0 < never_set x k → refusal_at (never_set x k) ≡ Improper → ⊥
+unfolding never_set refusal_at
+never_not x k l e =
+    by_bool (is_some (mark_at x k)) (λ h. let z = rw h at l in omega arith) (λ h. let q = rw h at e in let z : ◌≡◌ {A = ℕ} 0 1 = cc in omega arith)
 
-return_not : (x : Session) (k : ℕ) → first_of (beyond k) (never_set x k) ≡ 13 → ⊥
-return_not x k e = by_bool (ltb 0 (beyond k)) (λ h. set_not k (rw h at e)) (λ h. never_not x k (rw h at e))
-
-tick_not : (a : TickAnswer) → ((r : ℕ) → a ≡ Tick.Refused r → r ≡ 11) → step_answer a ≡ Refused 13 → ⊥
-tick_not Tick.Next f e = let z : ◌≡◌ {A = ℕ} 0 1 = cc in omega arith
-tick_not Tick.Missed f e = let z : ◌≡◌ {A = ℕ} 0 1 = cc in omega arith
-tick_not (Tick.Refused r) f e = let z : ◌≡◌ {A = ℕ} r 13 = cc in omega (arith, f r refl)
+return_not : (x : Session) (k : ℕ) → 0 < first_of (beyond k) (never_set x k) → refusal_at (first_of (beyond k) (never_set x k)) ≡ Improper → ⊥
+return_not x k l e = by_bool (ltb 0 (beyond k)) (λ h. set_not k (rw h at l) (rw h at e)) (λ h. never_not x k (rw h at l) (rw h at e))
 
 -- ---- the marks by their numbers
 
@@ -141,7 +121,7 @@ module _ (t : Table) (valid : table_fault t ≡ 0) where
   -- ---- the record of a session whose calls are noted
 
   -- a tick that goes on is that of the present state
-  next_is_tick : (x : Session) (mask : ℕ) → (step_tick t x mask).answer ≡ Tick.Next → step_tick t x mask ≡ ticked t x.present mask
+  next_is_tick : (x : Session) (mask : ℕ) → (step_tick t x mask).answer ≡ Ok Step.Next → step_tick t x mask ≡ ticked t x.present mask
   unfolding step_tick
   next_is_tick x mask e =
       by_bool (ltb 0 (session_fault t x))
@@ -149,12 +129,12 @@ module _ (t : Table) (valid : table_fault t ≡ 0) where
       (λ h. rw h)
 
   step_noted :
-      (x : Session) (h : Record) (mask : ℕ) (s : State) (a : TickAnswer)
-      → (a ≡ Tick.Next → KeptAs t (h.list ++ (mask ∷ [])) s) → OnRecord t x h → OnRecord t (after_tick x s a) (noted h (Step mask) (step_answer a))
-  step_noted x h mask s Tick.Next f on =
+      (x : Session) (h : Record) (mask : ℕ) (s : State) (a : Result Step Refusal)
+      → (a ≡ Ok Step.Next → KeptAs t (h.list ++ (mask ∷ [])) s) → OnRecord t x h → OnRecord t (after_tick x s a) (noted h (Call.Step mask) a)
+  step_noted x h mask s (Ok Step.Next) f on =
       record { present = f refl; marks = λ k. subst (λ m. MarkOnRecord t m (h.stored k)) (sym (mark_moved x s k)) (on.marks k) }
-  step_noted x h mask s Tick.Missed f on = on
-  step_noted x h mask s (Tick.Refused r) f on = on
+  step_noted x h mask s (Ok Step.Missed) f on = on
+  step_noted x h mask s (Err r) f on = on
 
   set_noted : (x : Session) (h : Record) (k : ℕ) → outside k ≡ false → OnRecord t x h → OnRecord t (marked x k) (stored_under h k)
   set_noted x h k e on =
@@ -177,30 +157,34 @@ module _ (t : Table) (valid : table_fault t ≡ 0) where
         marks = λ j. subst (λ m. MarkOnRecord t m (h.stored j)) (sym (mark_moved x (unwrap_or (mark_at x k) x.present) j)) (on.marks j);
       }
 
+  -- a call on marks, by whether it is refused
+  settled_noted :
+      (x : Session) (h : Record) (c : Call) (n : ℕ) (x' : Session) (a : Result Session Refusal) → unless_refused n x' ≡ a
+      → (n ≡ 0 → OnRecord t x' (note_done h c)) → OnRecord t x h → OnRecord t (settled x a).session (noted h c (settled x a).answer)
+  settled_noted x h c n x' (Ok y) e f on = let g = accepted_unless n x' e in subst (λ z. OnRecord t z (note_done h c)) (sym g.1) (f g.0)
+  settled_noted x h c n x' (Err r) e f on = on
+
   -- LAW: one call keeps session and record together
   pub call_noted : (x : Session) (h : Record) (c : Call) → OnRecord t x h → OnRecord t (called t x c) (noted h c (call_answer t x c))
   unfolding stepped mark_set returned set_refusal return_refusal
-  call_noted x h (Step mask) on =
+  call_noted x h (Call.Step mask) on =
       step_noted x h mask (step_tick t x mask).state (step_tick t x mask).answer
       (λ e.
       let q = next_is_tick x mask e in
       rw q (kept_more t valid h.list x.present mask on.present (ap (λ r. r.answer) (sym q) ∙ e)))
       on
-  call_noted x h (SetMark k) on =
-      let Both : Called → Type 0 = λ r. OnRecord t r.session (noted h (SetMark k) r.answer) in
-      unless (set_refusal t x k) x (marked x k)
-      (λ z e.
-      let free = none_of (session_fault t x) (beyond k) z in
-      subst Both (sym e) (set_noted x h k (not_beyond k free.1) on))
-      (λ e. subst Both (sym e) on)
-  call_noted x h (ReturnTo k) on =
-      let Both : Called → Type 0 = λ r. OnRecord t r.session (noted h (ReturnTo k) r.answer) in
-      unless (return_refusal t x k) x (moved x (unwrap_or (mark_at x k) x.present))
-      (λ z e.
+  call_noted x h (Call.SetMark k) on =
+      let x' = marked x k in
+      settled_noted x h (Call.SetMark k) (set_refusal t x k) x' (unless_refused (set_refusal t x k) x') refl
+      (λ z. set_noted x h k (not_beyond k (none_of (session_fault t x) (beyond k) z).1) on)
+      on
+  call_noted x h (Call.ReturnTo k) on =
+      let x' = moved x (unwrap_or (mark_at x k) x.present) in
+      settled_noted x h (Call.ReturnTo k) (return_refusal t x k) x' (unless_refused (return_refusal t x k) x') refl
+      (λ z.
       let free = none_of (session_fault t x) (first_of (beyond k) (never_set x k)) z in
-      let set = was_set x k (none_of (beyond k) (never_set x k) free.1).1 in
-      subst Both (sym e) (return_noted x h k (h.stored k) set (on.marks k) on))
-      (λ e. subst Both (sym e) on)
+      return_noted x h k (h.stored k) (was_set x k (none_of (beyond k) (never_set x k) free.1).1) (on.marks k) on)
+      on
 
   calls_noted : (x : Session) (h : Record) (cs : List Call) → OnRecord t x h → OnRecord t (session_after t x cs) (record_after t x h cs)
   unfolding session_after record_after
@@ -240,19 +224,21 @@ module _ (t : Table) (valid : table_fault t ≡ 0) where
   unfolding step_tick
   step_is_tick x mask e = rw e
 
-  not_thirteen : (x : Session) (h : Record) (c : Call) → OnRecord t x h → call_answer t x c ≡ Refused 13 → ⊥
+  not_thirteen : (x : Session) (h : Record) (c : Call) → OnRecord t x h → call_answer t x c ≡ Err Improper → ⊥
   unfolding stepped mark_set returned set_refusal return_refusal
-  not_thirteen x h (Step mask) on e =
+  not_thirteen x h (Call.Step mask) on e =
       let proper = kept_proper t valid h.list x.present on.present in
-      tick_not (ticked t x.present mask).answer (λ r q. tick_eleven t valid x.present mask r proper q)
-      (ap (λ r. step_answer r.answer) (sym (step_is_tick x mask (proper_session x h on))) ∙ e)
-  not_thirteen x h (SetMark k) on e =
-      set_not k (ap (λ r. first_of r (beyond k)) (sym (proper_session x h on)) ∙ refusal_told (set_refusal t x k) 13 x (marked x k) e)
-  not_thirteen x h (ReturnTo k) on e =
-      return_not x k
-      (ap (λ r. first_of r (first_of (beyond k) (never_set x k))) (sym (proper_session x h on))
-      ∙ refusal_told (return_refusal t x k) 13 x (moved x (unwrap_or (mark_at x k) x.present)) e)
+      let eleven = tick_eleven t valid x.present mask Improper proper (ap (λ r. r.answer) (sym (step_is_tick x mask (proper_session x h on))) ∙ e) in
+      let z : ◌≡◌ {A = ℕ} 0 1 = cc in
+      omega arith
+  not_thirteen x h (Call.SetMark k) on e =
+      let f = refusal_told (set_refusal t x k) x (marked x k) (unless_refused (set_refusal t x k) (marked x k)) refl e in
+      set_not k (rw (proper_session x h on) at f.0) (rw (proper_session x h on) at f.1)
+  not_thirteen x h (Call.ReturnTo k) on e =
+      let x' = moved x (unwrap_or (mark_at x k) x.present) in
+      let f = refusal_told (return_refusal t x k) x x' (unless_refused (return_refusal t x k) x') refl e in
+      return_not x k (rw (proper_session x h on) at f.0) (rw (proper_session x h on) at f.1)
 
   -- THEOREM: from a fresh session no call answers 13
-  pub no_thirteen : (cs : List Call) (c : Call) → call_answer t (session_after t fresh cs) c ≡ Refused 13 → ⊥
+  pub no_thirteen : (cs : List Call) (c : Call) → call_answer t (session_after t fresh cs) c ≡ Err Improper → ⊥
   no_thirteen cs c = not_thirteen (session_after t fresh cs) (record_after t fresh blank cs) c (record_law cs)

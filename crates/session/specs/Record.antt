@@ -1,17 +1,16 @@
 -- The record beside a session (document 02, §8): for every list of calls "the present state is the replay of the release list on record".
-use Rattle.std.specs.Prelude.{ℕ, ◌≡◌, List, [], ◌∷◌, ◌++◌, eqb, Option, Some, None}
+use Rattle.std.specs.Prelude.{ℕ, ◌≡◌, List, [], ◌∷◌, ◌++◌, eqb, Option, Some, None, Result, Ok, Err}
 use Rattle.lists.specs.Lists.{pick}
 use Rattle.tasks.specs.Replay.{replayed}
+use Rattle.tasks.specs.declared.refusal.Refusal.{Refusal}
+use Rattle.tasks.specs.declared.tick.Step.{Step}
 use Rattle.tasks.specs.declared.state.State.{State}
 use Rattle.tasks.specs.declared.table.Table.{Table}
 use Rattle.tasks.specs.declared.play.Outcome.TheVariants.{Kept}
 use Rattle.tasks.specs.declared.play.ReplayAnswer.TheVariants.{Played}
 use Rattle.session.specs.Session.{mark_at, call_answer, called}
 use Rattle.session.specs.declared.marks.Session.{Session}
-use Rattle.session.specs.declared.calls.SessionAnswer.{SessionAnswer}
-use Rattle.session.specs.declared.calls.SessionAnswer.TheVariants.{Done, Missed, Refused}
 use Rattle.session.specs.declared.calls.Call.{Call}
-use Rattle.session.specs.declared.calls.Call.TheVariants.{Step, SetMark, ReturnTo}
 
 -- ---- the record
 
@@ -40,15 +39,15 @@ brought_back h (Listed l) = record { list = l; stored = h.stored }
 
 -- the record after a call that is done: "a step accepted without a miss adds its mask"
 abbrev pub note_done : Record → Call → Record
-note_done h (Step mask) = record { list = h.list ++ (mask ∷ []); stored = h.stored }
-note_done h (SetMark k) = stored_under h k
-note_done h (ReturnTo k) = brought_back h (h.stored k)
+note_done h (Call.Step mask) = record { list = h.list ++ (mask ∷ []); stored = h.stored }
+note_done h (Call.SetMark k) = stored_under h k
+note_done h (Call.ReturnTo k) = brought_back h (h.stored k)
 
 -- .. and by the call's answer: "a refused call alters neither record nor session", and no more does a miss
-abbrev pub noted : Record → Call → SessionAnswer → Record
-noted h c Done = note_done h c
-noted h c Missed = h
-noted h c (Refused r) = h
+abbrev pub noted : Record → Call → Result Step Refusal → Record
+noted h c (Ok Step.Next) = note_done h c
+noted h c (Ok Step.Missed) = h
+noted h c (Err r) = h
 
 -- ---- a list of calls, one after the other, with the same table
 

@@ -1,6 +1,6 @@
 -- A session with marks (document 02, §8): its present state, eight marks, and the calls step, set mark and return to mark, for any table and session. Marks are numbered
 -- from 1 in a call, as the paper has them, and from 0 in the list.
-use Rattle.std.specs.Prelude.{ℕ, ◌+◌, ◌-◌, Bool, false, ◌||◌, List, [], ◌∷◌, eqb, ltb, get_or, Option, Some, None, is_some}
+use Rattle.std.specs.Prelude.{ℕ, ◌+◌, ◌-◌, Bool, false, ◌||◌, List, [], ◌∷◌, eqb, ltb, get_or, Option, Some, None, is_some, Result, Ok, Err}
 use Rattle.std.specs.Option.{unwrap_or}
 use Rattle.lists.specs.Lists.{eight, pick, any}
 use Rattle.tasks.specs.Table.{outside, table_fault}
@@ -8,14 +8,12 @@ use Rattle.tasks.specs.State.{start, improper}
 use Rattle.tasks.specs.Tick.{answered, ticked}
 use Rattle.tasks.specs.declared.state.State.{State}
 use Rattle.tasks.specs.declared.table.Table.{Table}
-use Rattle.tasks.specs.declared.tick.TickAnswer.{TickAnswer}
-use Rattle.tasks.specs.declared.tick.TickAnswer.TheVariants as Tick
+use Rattle.tasks.specs.Refusals.{refusal_number, refusal_at, unless_refused}
+use Rattle.tasks.specs.declared.refusal.Refusal.{Refusal}
+use Rattle.tasks.specs.declared.tick.Step.{Step}
 use Rattle.tasks.specs.declared.tick.Ticked.{Ticked}
 use Rattle.session.specs.declared.marks.Session.{Session}
-use Rattle.session.specs.declared.calls.SessionAnswer.{SessionAnswer}
-use Rattle.session.specs.declared.calls.SessionAnswer.TheVariants.{Done, Missed, Refused}
 use Rattle.session.specs.declared.calls.Call.{Call}
-use Rattle.session.specs.declared.calls.Call.TheVariants.{Step, SetMark, ReturnTo}
 use Rattle.session.specs.declared.calls.Stepped.{Stepped}
 use Rattle.session.specs.declared.calls.Called.{Called}
 
@@ -79,17 +77,17 @@ return_refusal t x k = first_of (session_fault t x) (first_of (beyond k) (never_
 
 -- "a step answers as the tick from the present state does", and has the tick's state beside it; a session that is refused is not ticked
 unfoldable pub step_tick : Table → Session → ℕ → Ticked
-step_tick t x mask = pick (ltb 0 (session_fault t x)) (answered (Tick.Refused (session_fault t x)) x.present) (ticked t x.present mask)
+step_tick t x mask = pick (ltb 0 (session_fault t x)) (answered (Err (refusal_at (session_fault t x))) x.present) (ticked t x.present mask)
 
 -- the session with another present state
 abbrev pub moved : Session → State → Session
 moved x s = record { present = s; marks = x.marks }
 
 -- the session after a tick: "after a miss the session stays where it was"
-abbrev pub after_tick : Session → State → TickAnswer → Session
-after_tick x s Tick.Next = moved x s
-after_tick x s Tick.Missed = x
-after_tick x s (Tick.Refused r) = x
+abbrev pub after_tick : Session → State → Result Step Refusal → Session
+after_tick x s (Ok Step.Next) = moved x s
+after_tick x s (Ok Step.Missed) = x
+after_tick x s (Err r) = x
 
 unfoldable pub stepped : Table → Session → ℕ → Stepped
 stepped t x mask = record { ticked = step_tick t x mask; session = after_tick x (step_tick t x mask).state (step_tick t x mask).answer }
@@ -104,35 +102,31 @@ marked x k =
       marks = eight (λ i. pick (eqb (i + 1) k) (Some x.present) (mark_in x i));
     }
 
--- a refusal with the session given, or Done with the one after the call
-abbrev pub unless_refused : ℕ → Session → Session → Called
-unless_refused r x x' = pick (ltb 0 r) (record { answer = Refused r; session = x }) (record { answer = Done; session = x' })
+-- a refusal with the session given, or done, which is Next, with the one after the call
+abbrev pub settled : Session → Result Session Refusal → Called
+settled x (Ok x') = record { answer = Ok Step.Next; session = x' }
+settled x (Err r) = record { answer = Err r; session = x }
 
 unfoldable pub mark_set : Table → Session → ℕ → Called
-mark_set t x k = unless_refused (set_refusal t x k) x (marked x k)
+mark_set t x k = settled x (unless_refused (set_refusal t x k) (marked x k))
 
 -- the mark that is returned to stays; where none is set there is a refusal
 unfoldable pub returned : Table → Session → ℕ → Called
-returned t x k = unless_refused (return_refusal t x k) x (moved x (unwrap_or (mark_at x k) x.present))
+returned t x k = settled x (unless_refused (return_refusal t x k) (moved x (unwrap_or (mark_at x k) x.present)))
 
 -- ---- any of the calls
 
--- a step's answer as that of any call: a tick with a next state is Done
-abbrev pub step_answer : TickAnswer → SessionAnswer
-step_answer Tick.Next = Done
-step_answer Tick.Missed = Missed
-step_answer (Tick.Refused r) = Refused r
-
+-- a step's answer is that of its tick, without the tick's state
 abbrev pub without_state : Stepped → Called
-without_state r = record { answer = step_answer r.ticked.answer; session = r.session }
+without_state r = record { answer = r.ticked.answer; session = r.session }
 
 -- a call's outcome: its answer, and the session after it
 abbrev pub outcome : Table → Session → Call → Called
-outcome t x (Step mask) = without_state (stepped t x mask)
-outcome t x (SetMark k) = mark_set t x k
-outcome t x (ReturnTo k) = returned t x k
+outcome t x (Call.Step mask) = without_state (stepped t x mask)
+outcome t x (Call.SetMark k) = mark_set t x k
+outcome t x (Call.ReturnTo k) = returned t x k
 
-abbrev pub call_answer : Table → Session → Call → SessionAnswer
+abbrev pub call_answer : Table → Session → Call → Result Step Refusal
 call_answer t x c = (outcome t x c).answer
 
 abbrev pub called : Table → Session → Call → Session
@@ -140,7 +134,7 @@ called t x c = (outcome t x c).session
 
 -- ---- the answer in figures, as Answers.antt of `tasks` has them: kind 1 done, kind 2 Missed, kind 0 with the refusal's number
 
-unfoldable pub session_answer : SessionAnswer → List ℕ
-session_answer Done = 1 ∷ []
-session_answer Missed = 2 ∷ []
-session_answer (Refused r) = 0 ∷ r ∷ []
+unfoldable pub session_answer : Result Step Refusal → List ℕ
+session_answer (Ok Step.Next) = 1 ∷ []
+session_answer (Ok Step.Missed) = 2 ∷ []
+session_answer (Err r) = 0 ∷ refusal_number r ∷ []

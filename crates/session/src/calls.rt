@@ -1,10 +1,11 @@
 // The calls on a session, for any table, session, mask and mark number. Each hands back the session after it.
 ghost use Rattle.std.specs.Prelude.{◌≡◌};
-ghost use Rattle.tasks.specs.Answers.{tick_answer};
-ghost use Rattle.session.specs.Session.{first_of, session_fault, beyond, never_set, set_refusal, return_refusal, step_tick, stepped, unless_refused, mark_set, returned, without_state, call_answer, called, session_answer};
+ghost use Rattle.std.specs.Option.{unwrap_or};
+ghost use Rattle.tasks.specs.Refusals.{unless_refused};
+ghost use Rattle.session.specs.Session.{mark_at, session_fault, set_refusal, return_refusal, step_tick, moved, stepped, marked, settled, mark_set, returned, outcome};
 
-use crate::marks::{Session, outside};
-use tasks::{Table, TickAnswer, Ticked};
+use crate::marks::Session;
+use tasks::{Refusal, Step, Table, Ticked};
 
 // What a step answers: the tick's answer and state, and the session after it.
 #[derive(Clone, Copy)]
@@ -21,159 +22,114 @@ pub enum Call {
     ReturnTo(u8),
 }
 
-// The answer of a call; the session after it travels beside it. Only a step is Missed.
-#[derive(Clone, Copy, Debug, PartialEq, Eq)]
-pub enum SessionAnswer {
-    Done,
-    Missed,
-    Refused(u8),
-}
-
+// The answer of a call, and the session after it. A call that is done is Next, and only a step is Missed.
 #[derive(Clone, Copy)]
 pub struct Called {
-    pub answer: SessionAnswer,
+    pub answer: Result<Step, Refusal>,
     pub session: Session,
 }
 
-// The first of two refusals that applies, where 0 is none.
-fn first_of(a: u8, b: u8) -> u8
-    ensures { result ≡ first_of a b }
+// What a call on marks answers, from the session given and the one after it, or why there is none.
+fn settled(given: Session, after: Result<Session, Refusal>) -> Called
+    ensures { result ≡ settled given after }
 {
-    if 0 < a { a } else { b }
-}
-
-// 15 where k is no mark's number.
-fn beyond(k: u8) -> u8
-    ensures { result ≡ beyond k }
-{
-    if outside(k) { 15 } else { 0 }
-}
-
-// A refusal with the session given, or Done with the one after the call.
-fn unless_refused(why: u8, given: Session, after: Session) -> Called
-    ensures { result ≡ unless_refused why given after }
-{
-    if 0 < why {
-        return Called {
-            answer: SessionAnswer::Refused(why),
+    match after {
+        Ok(session) => Called {
+            answer: Ok(Step::Next),
+            session,
+        },
+        Err(why) => Called {
+            answer: Err(why),
             session: given,
-        };
-    }
-    Called {
-        answer: SessionAnswer::Done,
-        session: after,
-    }
-}
-
-// A step's answer as that of any call, without the tick's state.
-fn without_state(r: Stepped) -> Called
-    ensures { result ≡ without_state r }
-{
-    let session = r.session;
-    let ticked = r.ticked;
-    let answer = ticked.answer;
-    match answer {
-        TickAnswer::Next => Called {
-            answer: SessionAnswer::Done,
-            session,
-        },
-        TickAnswer::Missed => Called {
-            answer: SessionAnswer::Missed,
-            session,
-        },
-        TickAnswer::Refused(n) => Called {
-            answer: SessionAnswer::Refused(n),
-            session,
         },
     }
 }
 
 impl Session {
-    // Why every call is refused: 4 to 7, then 13.
-    fn fault(self, t: Table) -> u8
-        ensures { result ≡ session_fault t self }
+    // Whether a call may be made, or the first of 4 to 7 and 13 that applies.
+    fn check(self, t: Table) -> Result<(), Refusal>
+        ensures { result ≡ unless_refused (session_fault t self) tt }
     {
-        let fault = t.fault();
-        if 0 < fault {
-            return fault;
+        t.check()?;
+        if self.improper(t) {
+            return Err(Refusal::Improper);
         }
-        if self.improper(t) { 13 } else { 0 }
-    }
-
-    // 16 where mark k was never set.
-    fn never_set(self, k: u8) -> u8
-        ensures { result ≡ never_set self k }
-    {
-        if self.mark(k).is_some() { 0 } else { 16 }
-    }
-
-    // Why mark k is not set.
-    fn set_refusal(self, t: Table, k: u8) -> u8
-        ensures { result ≡ set_refusal t self k }
-    {
-        first_of(self.fault(t), beyond(k))
-    }
-
-    // Why there is no return to mark k.
-    fn return_refusal(self, t: Table, k: u8) -> u8
-        ensures { result ≡ return_refusal t self k }
-    {
-        let outside = beyond(k);
-        let never = self.never_set(k);
-        first_of(self.fault(t), first_of(outside, never))
+        Ok(())
     }
 
     // The tick of a step; a session that is refused is not ticked.
     fn step_tick(self, t: Table, mask: u8) -> Ticked
         ensures { result ≡ step_tick t self mask }
     {
-        let present = self.present;
-        let fault = self.fault(t);
-        if 0 < fault {
+        if let Err(why) = self.check(t) {
             return Ticked {
-                answer: TickAnswer::Refused(fault),
-                state: present,
+                answer: Err(why),
+                state: self.present,
             };
         }
-        present.tick(t, mask)
+        self.present.tick(t, mask)
     }
 
-    // Step with a mask: the answer and the state of the tick from the present state. After a miss the session stays where it was.
+    // The session with mark k set, or why it is not.
+    fn with_mark(self, t: Table, k: u8) -> Result<Session, Refusal>
+        ensures { result ≡ unless_refused (set_refusal t self k) (marked self k) }
+    {
+        self.check(t)?;
+        self.marked(k)
+    }
+
+    // The session at the state of mark k, which stays, or why there is no return to it.
+    fn at_mark(self, t: Table, k: u8) -> Result<Session, Refusal>
+        ensures { result ≡ unless_refused (return_refusal t self k) (moved self (unwrap_or (mark_at self k) self.present)) }
+    {
+        self.check(t)?;
+        let present = self.mark(k)?;
+        Ok(Session { present, ..self })
+    }
+
+    // Step with a mask: the tick from the present state. After a miss the session stays where it was.
     pub fn step(self, t: Table, mask: u8) -> Stepped
-        ensures { (tick_answer result.ticked ≡ tick_answer (stepped t self mask).ticked) × (result.ticked.state ≡ (stepped t self mask).ticked.state) × (result.session ≡ (stepped t self mask).session) }
+        ensures { result ≡ stepped t self mask }
     {
         let ticked = self.step_tick(t, mask);
-        let answer = ticked.answer;
-        let state = ticked.state;
-        let moved = self.moved(state);
-        let session = match answer {
-            TickAnswer::Next => moved,
-            TickAnswer::Missed => self,
-            TickAnswer::Refused(_) => self,
+        let moved = Session {
+            present: ticked.state,
+            ..self
+        };
+        let session = match ticked.answer {
+            Ok(Step::Next) => moved,
+            Ok(Step::Missed) => self,
+            Err(_) => self,
         };
         Stepped { ticked, session }
     }
 
     // Set mark k: the present state is stored under it.
     pub fn set_mark(self, t: Table, k: u8) -> Called
-        ensures { (session_answer result.answer ≡ session_answer (mark_set t self k).answer) × (result.session ≡ (mark_set t self k).session) }
+        ensures { result ≡ mark_set t self k }
     {
-        unless_refused(self.set_refusal(t, k), self, self.marked(k))
+        settled(self, self.with_mark(t, k))
     }
 
     // Return to mark k, which stays: its state is the present one.
     pub fn return_to(self, t: Table, k: u8) -> Called
-        ensures { (session_answer result.answer ≡ session_answer (returned t self k).answer) × (result.session ≡ (returned t self k).session) }
+        ensures { result ≡ returned t self k }
     {
-        unless_refused(self.return_refusal(t, k), self, self.at_mark(k))
+        settled(self, self.at_mark(t, k))
     }
 
     // Any of the three calls.
     pub fn call(self, t: Table, call: Call) -> Called
-        ensures { (session_answer result.answer ≡ session_answer (call_answer t self call)) × (result.session ≡ called t self call) }
+        ensures { result ≡ outcome t self call }
     {
         match call {
-            Call::Step(mask) => without_state(self.step(t, mask)),
+            Call::Step(mask) => {
+                let stepped = self.step(t, mask);
+                Called {
+                    answer: stepped.ticked.answer,
+                    session: stepped.session,
+                }
+            }
             Call::SetMark(k) => self.set_mark(t, k),
             Call::ReturnTo(k) => self.return_to(t, k),
         }

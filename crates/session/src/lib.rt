@@ -4,5 +4,5 @@
 mod calls;
 mod marks;
 
-pub use calls::{Call, Called, SessionAnswer, Stepped};
+pub use calls::{Call, Called, Stepped};
 pub use marks::Session;

@@ -1,11 +1,12 @@
 // A session by value: its present state and its marks.
-ghost use Rattle.std.specs.Prelude.{◌≡◌, ◌<◌};
+ghost use Rattle.std.specs.Prelude.{◌≡◌, ◌-◌, ◌<◌};
 ghost use Rattle.std.specs.Option.{unwrap_or};
 ghost use Rattle.lists.specs.Lists.{any};
+ghost use Rattle.tasks.specs.Refusals.{unless_refused};
 ghost use Rattle.tasks.specs.Table.{outside};
-ghost use Rattle.session.specs.Session.{fresh, mark_at, marked, moved, improper_mark, improper_session};
+ghost use Rattle.session.specs.Session.{fresh, mark_at, first_of, beyond, never_set, marked, improper_mark, improper_session};
 
-use tasks::{State, Table};
+use tasks::{Refusal, State, Table};
 
 // The present state, and marks 1 to 8: the state under each, where it is set.
 #[derive(Clone, Copy)]
@@ -15,10 +16,20 @@ pub struct Session {
 }
 
 // Whether a number is no mark's.
-pub(crate) fn outside(k: u8) -> bool
+fn outside(k: u8) -> bool
     ensures { result ≡ outside k }
 {
     !(1..=8).contains(&k)
+}
+
+// The place of mark k, or 15 where k is no mark's number.
+fn place(k: u8) -> Result<usize, Refusal>
+    ensures { result ≡ unless_refused (beyond k) (k - 1) }
+{
+    if outside(k) {
+        return Err(Refusal::MarkNumber);
+    }
+    Ok(usize::from(k - 1))
 }
 
 impl Session {
@@ -32,40 +43,22 @@ impl Session {
         }
     }
 
-    // The state under mark k, where it is set; a number outside 1 to 8 has none.
-    pub(crate) fn mark(self, k: u8) -> Option<State>
-        ensures { result ≡ mark_at self k }
+    // The state under mark k, or 15 where k is no mark's number, or 16 where the mark was never set.
+    pub(crate) fn mark(self, k: u8) -> Result<State, Refusal>
+        ensures { result ≡ unless_refused (first_of (beyond k) (never_set self k)) (unwrap_or (mark_at self k) self.present) }
     {
-        if outside(k) {
-            return None;
-        }
-        self.marks[usize::from(k - 1)]
+        let mark = self.marks[place(k)?];
+        mark.ok_or(Refusal::MarkUnset)
     }
 
-    // The session with another present state.
-    pub(crate) fn moved(self, present: State) -> Session
-        ensures { result ≡ moved self present }
+    // The session with its present state under mark k, or 15 where k is no mark's number.
+    pub(crate) fn marked(self, k: u8) -> Result<Session, Refusal>
+        ensures { result ≡ unless_refused (beyond k) (marked self k) }
     {
-        Session { present, ..self }
-    }
-
-    // The session at the state of mark k, where the mark is set. The mark stays.
-    pub(crate) fn at_mark(self, k: u8) -> Session
-        ensures { result ≡ moved self (unwrap_or (mark_at self k) self.present) }
-    {
-        self.moved(self.mark(k).unwrap_or(self.present))
-    }
-
-    // The session with its present state under mark k, for k outside 1 to 8 the session as it is.
-    pub(crate) fn marked(self, k: u8) -> Session
-        ensures { result ≡ marked self k }
-    {
-        if outside(k) {
-            return self;
-        }
+        let i = place(k)?;
         let mut x = self;
-        x.marks[usize::from(k - 1)] = Some(self.present);
-        x
+        x.marks[i] = Some(self.present);
+        Ok(x)
     }
 
     // Whether the ith mark, counted from 0, is set and its state not proper.

@@ -5,20 +5,20 @@ use mathlib.Core.List.{List}
 use native.Mathlib.Omega.{arith}
 use lib.Dec.{eqb, ltb}
 use lib.ListN.{length, get_or}
-use Rattle.std.specs.Prelude.{Option, Some, None}
+use Rattle.std.specs.Prelude.{Option, Some, None, Result, Ok, Err}
 use Rattle.std.specs.Option.{unwrap_or}
 use Rattle.lists.specs.Lists.{eight, pick}
 use Rattle.tasks.specs.Table.{outside}
 use Rattle.tasks.specs.Tick.{bit, refusal, missed, ran, after, ticked}
 use Rattle.tasks.specs.declared.state.State.{State}
 use Rattle.tasks.specs.declared.table.Table.{Table}
-use Rattle.tasks.specs.declared.tick.TickAnswer.{TickAnswer}
-use Rattle.tasks.specs.declared.tick.TickAnswer.TheVariants as Tick
+use Rattle.tasks.specs.Refusals.{unless_refused}
+use Rattle.tasks.specs.declared.refusal.Refusal.{Refusal}
+use Rattle.tasks.specs.declared.tick.Step.{Step}
 use Rattle.states.specs.Bytes.{state_from}
-use Rattle.session.specs.Session.{empty, mark_in, mark_at, session_fault, set_refusal, return_refusal, step_tick, moved, after_tick, stepped, marked, unless_refused, mark_set, returned, called}
+use Rattle.session.specs.Session.{empty, mark_in, mark_at, session_fault, set_refusal, return_refusal, step_tick, moved, after_tick, stepped, marked, settled, mark_set, returned, called}
 use Rattle.session.specs.declared.marks.Session.{Session}
 use Rattle.session.specs.declared.calls.Call.{Call}
-use Rattle.session.specs.declared.calls.Call.TheVariants.{Step, SetMark, ReturnTo}
 use Rattle.session_bytes.specs.Space.{place, mark_from, session_from}
 use Rattle.lists.proofs.Bools.{by_bool}
 use Rattle.lists.proofs.Fill.{eight_at}
@@ -80,10 +80,10 @@ step_eight t x mask e =
 moved_plain : (x : Session) (s : State) → Eight s → Plain x → Plain (moved x s)
 moved_plain x s e plain = record { present = e; list = plain.list; marks = plain.marks }
 
-after_plain : (x : Session) (s : State) (a : TickAnswer) → Eight s → Plain x → Plain (after_tick x s a)
-after_plain x s Tick.Next e plain = moved_plain x s e plain
-after_plain x s Tick.Missed e plain = plain
-after_plain x s (Tick.Refused r) e plain = plain
+after_plain : (x : Session) (s : State) (a : Result Step Refusal) → Eight s → Plain x → Plain (after_tick x s a)
+after_plain x s (Ok Step.Next) e plain = moved_plain x s e plain
+after_plain x s (Ok Step.Missed) e plain = plain
+after_plain x s (Err r) e plain = plain
 
 set_plain : (x : Session) (k : ℕ) → Plain x → Plain (marked x k)
 unfolding marked
@@ -109,14 +109,15 @@ or_eight : (mark : Option State) (s : State) → PlainMark mark → Eight s → 
 or_eight None s plain e = e
 or_eight (Some s') s plain e = plain
 
-unless_plain : (r : ℕ) (x x' : Session) → Plain x → Plain x' → Plain (unless_refused r x x').session
-unless_plain r x x' plain plain' = by_bool (ltb 0 r) (λ e. rw e plain) (λ e. rw e plain')
+settled_plain : (n : ℕ) (x x' : Session) → Plain x → Plain x' → Plain (settled x (unless_refused n x')).session
+unfolding unless_refused
+settled_plain n x x' plain plain' = by_bool (ltb 0 n) (λ e. rw e plain) (λ e. rw e plain')
 
 pub called_plain : (t : Table) (x : Session) (c : Call) → Plain x → Plain (called t x c)
 unfolding stepped mark_set returned
-called_plain t x (Step mask) plain =
+called_plain t x (Call.Step mask) plain =
     after_plain x (step_tick t x mask).state (step_tick t x mask).answer (step_eight t x mask plain.present) plain
-called_plain t x (SetMark k) plain = unless_plain (set_refusal t x k) x (marked x k) plain (set_plain x k plain)
-called_plain t x (ReturnTo k) plain =
+called_plain t x (Call.SetMark k) plain = settled_plain (set_refusal t x k) x (marked x k) plain (set_plain x k plain)
+called_plain t x (Call.ReturnTo k) plain =
     let back = unwrap_or (mark_at x k) x.present in
-    unless_plain (return_refusal t x k) x (moved x back) plain (moved_plain x back (or_eight (mark_at x k) x.present (at_plain x k plain) plain.present) plain)
+    settled_plain (return_refusal t x k) x (moved x back) plain (moved_plain x back (or_eight (mark_at x k) x.present (at_plain x k plain) plain.present) plain)

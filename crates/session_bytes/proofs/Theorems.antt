@@ -9,25 +9,24 @@ use native.Mathlib.Omega.{arith}
 use native.Mathlib.Decide.{ℕ_discrete}
 use lib.ListN.{length, get_or}
 use lib.Seq.{sets, length-sets}
-use Rattle.std.specs.Prelude.{Option, Some, None, is_some}
+use Rattle.std.specs.Prelude.{Option, Some, None, is_some, Result, Ok, Err}
 use Rattle.lists.specs.Lists.{bits_of}
 use Rattle.tasks.specs.Table.{table_fault}
 use Rattle.tasks.specs.Tick.{bit}
 use Rattle.tasks.specs.Sheet.{sheet_of}
 use Rattle.tasks.specs.declared.table.Table.{Table}
-use Rattle.tasks.specs.declared.sheet.Reading.TheVariants as Reading
+use Rattle.tasks.specs.declared.refusal.Refusal.{Refusal}
+use Rattle.tasks.specs.declared.refusal.Refusal.TheVariants.{Improper}
+use Rattle.tasks.specs.declared.tick.Step.{Step}
 use Rattle.tasks.specs.declared.state.State.{State}
 use Rattle.states.specs.Bytes.{state_from, state_bytes}
 use Rattle.session.specs.Session.{empty, fresh, mark_in, call_answer, called}
 use Rattle.session.specs.Record.{blank, session_after, record_after, OnRecord}
 use Rattle.session.specs.declared.marks.Session.{Session}
 use Rattle.session.specs.declared.calls.Call.{Call}
-use Rattle.session.specs.declared.calls.SessionAnswer.{SessionAnswer}
-use Rattle.session.specs.declared.calls.SessionAnswer.TheVariants.{Done, Missed, Refused}
 use Rattle.session_bytes.specs.Space.{place, mark_from, session_from, flags, stored_written, mark_written, marks_written, session_written, space_by, space_after, sheet_call, sheet_space, calls_space}
 use Rattle.lists.proofs.Fill.{eight_same}
 use Rattle.lists.proofs.Digits.{bits_at}
-use Rattle.tasks.proofs.Listed.{read_accepted}
 use Rattle.tasks.proofs.RoundTrip.{read_valid}
 use Rattle.slots.proofs.Bytes.{sets_other, sets_here, state_length, state_read}
 use Rattle.session.proofs.Theorems.{record_law, no_thirteen}
@@ -127,21 +126,18 @@ written_length : (x : Session) (b : List ℕ) → length (session_written x b) �
 unfolding session_written
 written_length x b = marks_length x 8 (sets b 0 (flags x ∷ state_bytes x.present)) ∙ length-sets b 0 (flags x ∷ state_bytes x.present)
 
-by_length : (a : SessionAnswer) (x : Session) (b : List ℕ) → length (space_by a x b) ≡ length b
-by_length Done x b = written_length x b
-by_length Missed x b = refl
-by_length (Refused r) x b = refl
+by_length : (a : Result Step Refusal) (x : Session) (b : List ℕ) → length (space_by a x b) ≡ length b
+by_length (Ok Step.Next) x b = written_length x b
+by_length (Ok Step.Missed) x b = refl
+by_length (Err r) x b = refl
 
 by_back :
-    (a : SessionAnswer) (x : Session) (b : List ℕ) → Plain x → 145 ≤ length b → ((a ≡ Done → ⊥) → x ≡ session_from b) → session_from (space_by a x b) ≡ x
-by_back Done x b plain room f = written_read x b plain room
-by_back Missed x b plain room f = sym (f (λ e. let z : ◌≡◌ {A = ℕ} 0 1 = cc in omega arith))
-by_back (Refused r) x b plain room f = sym (f (λ e. let z : ◌≡◌ {A = ℕ} 0 1 = cc in omega arith))
+    (a : Result Step Refusal) (x : Session) (b : List ℕ) → Plain x → 145 ≤ length b → ((a ≡ Ok Step.Next → ⊥) → x ≡ session_from b) → session_from (space_by a x b) ≡ x
+by_back (Ok Step.Next) x b plain room f = written_read x b plain room
+by_back (Ok Step.Missed) x b plain room f = sym (f (λ e. let z : ◌≡◌ {A = ℕ} 0 1 = cc in omega arith))
+by_back (Err r) x b plain room f = sym (f (λ e. let z : ◌≡◌ {A = ℕ} 0 1 = cc in omega arith))
 
-module _ (sheet : List ℕ) (accepted : (sheet_of sheet).answer ≡ Reading.Accepted) where
-  abbrev table : Table
-  table = (sheet_of sheet).table
-
+module _ (sheet : List ℕ) {table : Table} (accepted : sheet_of sheet ≡ Ok table) where
   call_length : (b : List ℕ) (c : Call) → 145 ≤ length b → length (sheet_space sheet b c) ≡ length b
   unfolding space_after
   call_length b c room =
@@ -173,7 +169,7 @@ module _ (sheet : List ℕ) (accepted : (sheet_of sheet).answer ≡ Reading.Acce
 
   module _ (bytes : (i : ℕ) → get_or sheet i 0 < 256) (b : List ℕ) (room : 145 ≤ length b) (zeros : (k : ℕ) → k < 145 → get_or b k 0 ≡ 0) where
     valid : table_fault table ≡ 0
-    valid = read_valid sheet bytes table (read_accepted (sheet_of sheet) accepted)
+    valid = read_valid sheet bytes table accepted
 
     no_flag : (i : ℕ) → i < 8 → bit (get_or b 0 0) i ≡ false
     unfolding bits_of
@@ -206,5 +202,5 @@ module _ (sheet : List ℕ) (accepted : (sheet_of sheet).answer ≡ Reading.Acce
         (sheet_calls sheet (calls_space sheet b cs) c accepted (omega arith)).0 ∙ ap (λ x. call_answer table x c) (session_back cs)
 
     -- THEOREM: .. and none answers 13
-    pub bytes_thirteen : (cs : List Call) (c : Call) → sheet_call sheet (calls_space sheet b cs) c ≡ Refused 13 → ⊥
+    pub bytes_thirteen : (cs : List Call) (c : Call) → sheet_call sheet (calls_space sheet b cs) c ≡ Err Improper → ⊥
     bytes_thirteen cs c e = no_thirteen table valid cs c (sym (bytes_answer cs c) ∙ e)

@@ -1,19 +1,20 @@
 -- A session in 145 bytes, which whoever calls keeps (document 02, §8, for the plotter's C build): a byte of flags, the present state's 16 bytes, then the 16 bytes of each
 -- of eight marks. A state's bytes are those of a slot (Bytes.antt of `states`).
-use Rattle.std.specs.Prelude.{ℕ, zero, suc, ◌+◌, ◌*◌, List, [], ◌∷◌, ltb, length, get_or, Option, Some, None, is_some}
+use Rattle.std.specs.Prelude.{ℕ, zero, suc, ◌+◌, ◌*◌, List, [], ◌∷◌, ltb, length, get_or, Option, Some, None, is_some, Result, Ok, Err}
 use Rattle.std.proofs.lemmas.List.Edits.{sets}
 use Rattle.lists.specs.Lists.{eight, pick, bits_of}
 use Rattle.tasks.specs.Tick.{bit}
-use Rattle.tasks.specs.Sheet.{sheet_of}
-use Rattle.tasks.specs.declared.sheet.Reading.{Reading}
+use Rattle.tasks.specs.Refusals.{refusal_number, refusal_at}
+use Rattle.tasks.specs.Sheet.{sheet_of, table_in}
+use Rattle.tasks.specs.declared.refusal.Refusal.{Refusal}
+use Rattle.tasks.specs.declared.table.Table.{Table}
+use Rattle.tasks.specs.declared.tick.Step.{Step}
 use Rattle.tasks.specs.declared.state.State.{State}
 use Rattle.states.specs.Bytes.{state_from, state_bytes}
 use Rattle.session.specs.Session.{empty, mark_in, outcome}
 use Rattle.session.specs.declared.marks.Session.{Session}
 use Rattle.session.specs.declared.calls.Call.{Call}
 use Rattle.session.specs.declared.calls.Called.{Called}
-use Rattle.session.specs.declared.calls.SessionAnswer.{SessionAnswer}
-use Rattle.session.specs.declared.calls.SessionAnswer.TheVariants.{Done, Missed, Refused}
 
 -- where state j begins: 0 is the present one, and k that of mark k
 abbrev pub place : ℕ → ℕ
@@ -55,28 +56,29 @@ session_written x b = marks_written x 8 (sets b 0 (flags x ∷ state_bytes x.pre
 -- ---- a call with a sheet's table
 
 -- why the session is not called: 1 to 8 of the sheet, then 12 where the space is shorter than 145 bytes, which is then not read
-abbrev pub space_refusal : Reading → List ℕ → ℕ
-space_refusal Reading.Accepted b = pick (ltb (length b) 145) 12 0
-space_refusal (Reading.Refused r) b = r
+abbrev pub space_refusal : Result Table Refusal → List ℕ → ℕ
+space_refusal (Ok t) b = pick (ltb (length b) 145) 12 0
+space_refusal (Err r) b = refusal_number r
 
 -- the space after a call with a table: a refusal leaves every byte, and so does a miss
-abbrev pub space_by : SessionAnswer → Session → List ℕ → List ℕ
-space_by Done x b = session_written x b
-space_by Missed x b = b
-space_by (Refused r) x b = b
+abbrev pub space_by : Result Step Refusal → Session → List ℕ → List ℕ
+space_by (Ok Step.Next) x b = session_written x b
+space_by (Ok Step.Missed) x b = b
+space_by (Err r) x b = b
 
 unfoldable pub space_after : Called → List ℕ → List ℕ
 space_after r b = space_by r.answer r.session b
 
 -- what the call answers
-unfoldable pub sheet_call : List ℕ → List ℕ → Call → SessionAnswer
+unfoldable pub sheet_call : List ℕ → List ℕ → Call → Result Step Refusal
 sheet_call sheet b c =
-    pick (ltb 0 (space_refusal (sheet_of sheet).answer b)) (Refused (space_refusal (sheet_of sheet).answer b)) (outcome (sheet_of sheet).table (session_from b) c).answer
+    pick (ltb 0 (space_refusal (sheet_of sheet) b)) (Err (refusal_at (space_refusal (sheet_of sheet) b)))
+    (outcome (table_in (sheet_of sheet)) (session_from b) c).answer
 
 -- .. and the space afterwards
 unfoldable pub sheet_space : List ℕ → List ℕ → Call → List ℕ
 sheet_space sheet b c =
-    pick (ltb 0 (space_refusal (sheet_of sheet).answer b)) b (space_after (outcome (sheet_of sheet).table (session_from b) c) b)
+    pick (ltb 0 (space_refusal (sheet_of sheet) b)) b (space_after (outcome (table_in (sheet_of sheet)) (session_from b) c) b)
 
 -- the space after a list of calls with the same sheet
 unfoldable pub calls_space : List ℕ → List ℕ → List Call → List ℕ

@@ -25,7 +25,8 @@ fn put_state(space: &mut [u8], j: usize, state: State)
     requires { (j < 9) × (145 ≤ length space.old) }
     ensures { space.new ≡ sets space.old (place j) (state_bytes state) }
 {
-    slots::write_state(state, &mut space[1 + 16 * j..]);
+    // There is room for its sixteen bytes, so it is not refused.
+    let _ = slots::write_state(state, &mut space[1 + 16 * j..]);
 }
 
 // Writes the ith mark, counted from 0, where it is set.

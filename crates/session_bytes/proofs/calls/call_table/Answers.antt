@@ -1,20 +1,24 @@
-use mathlib.Core.Path.{refl, ap, ◌∙◌}
+use mathlib.Core.Path.{◌≡◌, sym, ap, ◌∙◌}
+use Rattle.std.proofs.Common.{rules}
+use Rattle.std.specs.Prelude.{Err}
 use Rattle.session.specs.Session.{outcome}
-use Rattle.session.proofs.CallLaws.{called_is}
-use Rattle.session_bytes.proofs.CallLaws.{table_told}
+use Rattle.session_bytes.proofs.CallLaws.{table_told, not_next}
 use Rattle.session_bytes.proofs.calls.call_table.Goals as goal
 
-pub returns-in-Done : goal.returns-in-Done
-returns-in-Done c =
+pub returns-in_err-step : goal.returns-in_err-step
+returns-in_err-step c =
     let a = c.args in
-    table_told a.t a.space.now a.call (called_is c.call-called.ensures ∙ ap (λ x. outcome a.t x a.call) c.read_session.ensures) c.in-Done.is c.write_session.ensures
+    let r : c.from_residual.result ≡ Err c.in_err-step.field-0.0 = search rules in
+    table_told a.t a.space.now a.call (c.call-called.ensures ∙ ap (λ x. outcome a.t x a.call) c.read_session.ensures) (c.in_err-step.was ∙ sym r) (rw r)
 
-pub returns-in-Missed : goal.returns-in-Missed
-returns-in-Missed c =
+pub returns-in-Next : goal.returns-in-Next
+returns-in-Next c =
     let a = c.args in
-    table_told a.t a.space.now a.call (called_is c.call-called.ensures ∙ ap (λ x. outcome a.t x a.call) c.read_session.ensures) c.in-Missed.is refl
+    table_told a.t a.space.now a.call (c.call-called.ensures ∙ ap (λ x. outcome a.t x a.call) c.read_session.ensures) c.in_ok-step.was
+    (rw c.in-Next.is c.write_session.ensures)
 
-pub returns-in-Refused : goal.returns-in-Refused
-returns-in-Refused c =
+pub returns-in_default : goal.returns-in_default
+returns-in_default c =
     let a = c.args in
-    table_told a.t a.space.now a.call (called_is c.call-called.ensures ∙ ap (λ x. outcome a.t x a.call) c.read_session.ensures) c.in-Refused.is refl
+    table_told a.t a.space.now a.call (c.call-called.ensures ∙ ap (λ x. outcome a.t x a.call) c.read_session.ensures) c.in_ok-step.was
+    (not_next _ _ _ c.in_default.not-Next)

@@ -1,7 +1,7 @@
-use Rattle.session.specs.Session.{returned}
-use Rattle.session.proofs.CallLaws.{called_told}
+use mathlib.Core.Path.{ap, ◌∙◌}
+use Rattle.session.specs.Session.{settled, returned}
 use Rattle.session.proofs.marks.Session.return_to.Goals as goal
 
 pub returns : goal.returns
 unfolding returned
-returns c = called_told (rw (← c.return_refusal.ensures, ← c.at_mark.ensures) c.unless_refused.ensures)
+returns c = c.settled.ensures ∙ ap (settled c.args.self) c.at_mark.ensures

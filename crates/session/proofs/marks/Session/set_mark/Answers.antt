@@ -1,7 +1,7 @@
-use Rattle.session.specs.Session.{mark_set}
-use Rattle.session.proofs.CallLaws.{called_told}
+use mathlib.Core.Path.{ap, ◌∙◌}
+use Rattle.session.specs.Session.{settled, mark_set}
 use Rattle.session.proofs.marks.Session.set_mark.Goals as goal
 
 pub returns : goal.returns
 unfolding mark_set
-returns c = called_told (rw (← c.set_refusal.ensures, ← c.marked.ensures) c.unless_refused.ensures)
+returns c = c.settled.ensures ∙ ap (settled c.args.self) c.with_mark.ensures

@@ -1,13 +1,18 @@
-use borrow.Author.Tests.{lt-ltb, le-ltb}
-use Rattle.lists.proofs.Picks.{pick_yes, pick_no}
-use Rattle.tasks.proofs.Answers.{tick_is}
-use Rattle.session.specs.Session.{step_tick}
+use mathlib.Core.Path.{sym, ◌∙◌}
+use borrow.Author.Tests.{lt-ltb}
+use Rattle.tasks.proofs.Refusals.{refused_unless, accepted_unless}
+use Rattle.session.specs.Session.{session_fault, step_tick}
 use Rattle.session.proofs.marks.Session.step_tick.Goals as goal
 
-pub returns-then-fault-gt0 : goal.returns-then-fault-gt0
+pub returns-in-Err : goal.returns-in-Err
 unfolding step_tick
-returns-then-fault-gt0 c = rw (← c.fault-fault.ensures) (pick_yes _ (lt-ltb _ _ c.if-fault-gt0.true))
+returns-in-Err c =
+    let n = session_fault c.args.t c.args.self in
+    let f = refused_unless n tt (sym c.check.ensures ∙ c.in-Err.is) in
+    rw (lt-ltb 0 n f.0, f.1)
 
 pub returns : goal.returns
 unfolding step_tick
-returns c = rw (← c.fault-fault.ensures) (pick_no _ (le-ltb _ _ c.if-fault-gt0.false) (tick_is c.tick.ensures))
+returns c =
+    let f = accepted_unless (session_fault c.args.t c.args.self) tt (sym c.check.ensures ∙ c.in_default.is) in
+    rw f.0 c.tick.ensures
