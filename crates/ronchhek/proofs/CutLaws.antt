@@ -5,9 +5,12 @@ use mathlib.Core.List.{List}
 use lib.ListN.{length, take, drop}
 use lib.Seq.{take_at}
 use borrow.Author.Tests.{lt-ltb, le-ltb}
-use Rattle.tasks.specs.Sheet.{accepted_as, sheet_of, sheet_bytes, write_refusal, write_out}
+use Rattle.std.specs.Prelude.{Ok, Err}
+use Rattle.tasks.specs.Refusals.{refusal_number}
+use Rattle.tasks.specs.Sheet.{sheet_of, sheet_bytes, write_refusal, write_out}
+use Rattle.tasks.specs.declared.refusal.Refusal.{Refusal}
 use Rattle.tasks.specs.declared.table.Table.{Table}
-use Rattle.tasks.specs.declared.sheet.Reading.TheVariants as Reading
+use Rattle.tasks.proofs.Refusals.{refusal_some}
 use Rattle.cut.specs.Cut.{cut_table, cut_refusal, cut_of}
 use Rattle.cut.proofs.TableLaws.{not_cut_refused, cut_valid, cut_read, answer_refused, answer_accepted}
 use Rattle.ronchhek.specs.Tables.{sheet_number}
@@ -15,16 +18,16 @@ use Rattle.ronchhek.specs.Cuts.{first_number, first_space, cut_number, cut_space
 
 module _ (t : Table) (k : ℕ) (out : List ℕ) where
   -- the table is not cut
-  pub first_refused : {r : ℕ} → (cut_of t k).answer ≡ Reading.Refused r → (r ≡ first_number t k out) × (out ≡ first_space t k out)
+  pub first_refused : {r : Refusal} → cut_of t k ≡ Err r → (refusal_number r ≡ first_number t k out) × (out ≡ first_space t k out)
   unfolding first_number first_space
   first_refused {r} e =
-      let a = answer_refused t k e in
-      let l = lt-ltb 0 r a.0 in
-      (rw (a.1, l), rw (a.1, l))
+      let is = answer_refused t k e in
+      let l = lt-ltb 0 (refusal_number r) (refusal_some r) in
+      (rw (is, l), rw (is, l))
 
   -- the writer is given the cut table
   pub first_written :
-      (cut_of t k).answer ≡ Reading.Accepted → (sheet_number (cut_of t k).table out ≡ first_number t k out) × (write_out (cut_of t k).table out ≡ first_space t k out)
+      {u : Table} → cut_of t k ≡ Ok u → (sheet_number u out ≡ first_number t k out) × (write_out u out ≡ first_space t k out)
   unfolding first_number first_space
   first_written e = let a = answer_accepted t k e in (rw (a.1, a.0), rw (a.1, a.0))
 
@@ -44,26 +47,23 @@ module _ (t : Table) (k : ℕ) (out : List ℕ) where
 
 module _ (sheet : List ℕ) (k : ℕ) (out : List ℕ) where
   -- the sheet is refused
-  pub cut_refused : {r : ℕ} → (sheet_of sheet).answer ≡ Reading.Refused r → (r ≡ cut_number sheet k out) × (out ≡ cut_space sheet k out)
+  pub cut_refused : {r : Refusal} → sheet_of sheet ≡ Err r → (refusal_number r ≡ cut_number sheet k out) × (out ≡ cut_space sheet k out)
   unfolding cut_number cut_space
   cut_refused e = (rw e, rw e)
 
-  module _ (e : (sheet_of sheet).answer ≡ Reading.Accepted) where
-    pub cut_first :
-        (first_number (sheet_of sheet).table k out ≡ cut_number sheet k out) × (first_space (sheet_of sheet).table k out ≡ cut_space sheet k out)
+  module _ {t : Table} (e : sheet_of sheet ≡ Ok t) where
+    pub cut_first : (first_number t k out ≡ cut_number sheet k out) × (first_space t k out ≡ cut_space sheet k out)
     unfolding cut_number cut_space
     cut_first = (rw e, rw e)
 
-    module _ (none : cut_refusal (sheet_of sheet).table k ≡ 0) (room : length (sheet_bytes (cut_table k (sheet_of sheet).table)) ≤ length out) where
+    module _ (none : cut_refusal t k ≡ 0) (room : length (sheet_bytes (cut_table k t)) ≤ length out) where
       -- THEOREM: of a sheet that is accepted and a k from 1 to n, where the output has room: the number is kind 1 with the sheet's length
-      pub cut_done : cut_number sheet k out ≡ 2 ^ 48 + length (sheet_bytes (cut_table k (sheet_of sheet).table))
-      cut_done = sym cut_first.0 ∙ first_done (sheet_of sheet).table k out none room
+      pub cut_done : cut_number sheet k out ≡ 2 ^ 48 + length (sheet_bytes (cut_table k t))
+      cut_done = sym cut_first.0 ∙ first_done t k out none room
 
       -- THEOREM: and as many bytes of the output are read as the cut table
-      pub cut_again :
-          sheet_of (take (length (sheet_bytes (cut_table k (sheet_of sheet).table))) (cut_space sheet k out)) ≡ accepted_as (cut_table k (sheet_of sheet).table)
+      pub cut_again : sheet_of (take (length (sheet_bytes (cut_table k t))) (cut_space sheet k out)) ≡ Ok (cut_table k t)
       cut_again =
-          let t = (sheet_of sheet).table in
           ap (λ b. sheet_of (take (length (sheet_bytes (cut_table k t))) b)) (sym cut_first.1)
           ∙ ap sheet_of (first_front t k out none room)
           ∙ cut_read t k (not_cut_refused t k none)

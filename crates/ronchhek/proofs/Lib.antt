@@ -2,7 +2,6 @@
 pub mod VerdictLaws
 pub mod ReplayLaws
 pub mod ServiceLaws
-pub mod SessionLaws
 pub mod TableLaws
 pub mod PracticeLaws
 pub mod CutLaws

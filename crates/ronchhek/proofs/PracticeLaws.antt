@@ -1,13 +1,16 @@
 -- The laws of the call that writes a practice sheet: it is what the writer makes of the practice table, and the reader gives that table
 -- back. Assumes nothing.
-use Prim.Native.Nat.{ℕ, ◌+◌, ◌^◌, ◌≤◌, ◌<◌}
+use Prim.Native.Nat.{ℕ, ◌+◌, ◌^◌, ◌≤◌}
 use mathlib.Core.Path.{◌≡◌, refl, ap, ◌∙◌}
 use mathlib.Core.List.{List}
 use lib.ListN.{length, take, drop}
 use lib.Seq.{take_at}
 use borrow.Author.Tests.{lt-ltb, le-ltb}
-use Rattle.tasks.specs.Sheet.{accepted_as, sheet_of, write_refusal, write_out}
-use Rattle.tasks.specs.declared.sheet.Reading.TheVariants as Reading
+use Rattle.std.specs.Prelude.{Ok, Err}
+use Rattle.tasks.specs.Refusals.{refusal_number}
+use Rattle.tasks.specs.Sheet.{sheet_of, write_refusal, write_out}
+use Rattle.tasks.specs.declared.refusal.Refusal.{Refusal}
+use Rattle.tasks.proofs.Refusals.{refusal_some}
 use Rattle.practice.specs.Practice.{practice_table, practice_refusal, practice_of}
 use Rattle.practice.proofs.Theorems.{practice_fault, practice_read, answer_refused}
 use Rattle.ronchhek.specs.Tables.{sheet_number}
@@ -19,18 +22,17 @@ module _ (policy m n s : ℕ) (out : List ℕ) where
   unfolding write_refusal sheet_refusal
   same_refusal = rw (practice_fault policy m n s)
 
-  refusal_is : {r : ℕ} → 0 < r → practice_refusal policy m n ≡ r → sheet_refusal policy m n s out ≡ r
+  refusal_is : (r : Refusal) → practice_refusal policy m n ≡ refusal_number r → sheet_refusal policy m n s out ≡ refusal_number r
   unfolding sheet_refusal
-  refusal_is {r} h e = let l = lt-ltb 0 r h in rw (e, l)
+  refusal_is r e = let l = lt-ltb 0 (refusal_number r) (refusal_some r) in rw (e, l)
 
   -- policy, m or n is refused
   pub number_refused :
-      {r : ℕ} → (practice_of policy m n s).answer ≡ Reading.Refused r → (r ≡ practice_number policy m n s out) × (out ≡ practice_space policy m n s out)
+      {r : Refusal} → practice_of policy m n s ≡ Err r → (refusal_number r ≡ practice_number policy m n s out) × (out ≡ practice_space policy m n s out)
   unfolding practice_number practice_space
   number_refused {r} e =
-      let a = answer_refused policy m n s e in
-      let q = refusal_is a.0 a.1 in
-      let l = lt-ltb 0 r a.0 in
+      let q = refusal_is r (answer_refused policy m n s e) in
+      let l = lt-ltb 0 (refusal_number r) (refusal_some r) in
       (rw (q, l), rw (q, l))
 
   -- the writer is given the practice table
@@ -57,5 +59,5 @@ module _ (policy m n s : ℕ) (out : List ℕ) where
 
     -- THEOREM: as many bytes of the output are read as the practice table
     pub practice_again :
-        sheet_of (take (length (practice_sheet policy m n s)) (practice_space policy m n s out)) ≡ accepted_as (practice_table policy m n s)
+        sheet_of (take (length (practice_sheet policy m n s)) (practice_space policy m n s out)) ≡ Ok (practice_table policy m n s)
     practice_again = ap sheet_of front_is ∙ practice_read policy m n s e

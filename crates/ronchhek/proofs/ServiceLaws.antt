@@ -1,23 +1,24 @@
 -- The totals of a replay in their space, and the balance of the call. Assumes nothing.
 use Prim.Native.Nat.{ℕ, ◌+◌, ◌*◌, ◌^◌, ◌≤◌, ◌<◌}
-use mathlib.Core.Path.{◌≡◌, refl, sym, ◌∙◌}
+use mathlib.Core.Path.{◌≡◌, refl}
 use mathlib.Core.List.{List}
 use native.Mathlib.Omega.{arith}
 use native.Mathlib.Nat.{mul-le-mul}
 use lib.ListN.{length, get_or}
-use borrow.Author.Tests.{le-leb, lt-leb, eq-eqb}
+use borrow.Author.Tests.{le-leb, lt-leb}
 use Rattle.lists.proofs.Fill.{eight_at}
+use Rattle.std.specs.Prelude.{Ok, Err}
 use Rattle.tasks.specs.Table.{table_fault}
 use Rattle.tasks.specs.State.{start}
 use Rattle.tasks.specs.Sheet.{sheet_of}
 use Rattle.tasks.specs.Replay.{replayed}
 use Rattle.tasks.specs.declared.table.Table.{Table}
-use Rattle.tasks.specs.declared.sheet.Reading.TheVariants as Reading
+use Rattle.tasks.specs.declared.refusal.Refusal.{Refusal}
+use Rattle.tasks.specs.declared.refusal.Refusal.TheVariants.{Mask}
 use Rattle.tasks.specs.declared.play.ReplayAnswer.{ReplayAnswer}
 use Rattle.tasks.specs.declared.play.ReplayAnswer.TheVariants.{Played, Refused}
 use Rattle.tasks.proofs.Tables.{ordered}
 use Rattle.tasks.proofs.RoundTrip.{read_valid}
-use Rattle.tasks.proofs.Listed.{read_accepted}
 use Rattle.tasks.proofs.Played.{replayed_eleven}
 use Rattle.service.specs.Totals.{releases, runs_in, release_count, ticks_run, account_of}
 use Rattle.service.specs.Bytes.{totals_space}
@@ -28,22 +29,28 @@ use Rattle.ronchhek.specs.Services.{answer_totals, table_totals, call_totals, to
 
 -- where a replay is refused with 11 or not at all, its totals are written whatever it answers
 answer_written :
-    (a : ReplayAnswer) (x : Totals) (space : List ℕ) → ((r k : ℕ) → a ≡ Refused r k → r ≡ 11) → totals_space x space ≡ answer_totals a x space
+    (a : ReplayAnswer) (x : Totals) (space : List ℕ) → ((r : Refusal) (k : ℕ) → a ≡ Refused r k → r ≡ Mask) → totals_space x space ≡ answer_totals a x space
 answer_written (Played o) x space h = refl
-answer_written (Refused r k) x space h = rw (eq-eqb r 11 (h r k refl))
+answer_written (Refused r k) x space h = rw (h r k refl)
 
-module _ (t : Table) (list space : List ℕ) where
-  pub long_totals : 2 ^ 48 ≤ length list → space ≡ table_totals t list space
-  unfolding table_totals
-  long_totals h = rw (le-leb (2 ^ 48) (length list) h)
+module _ (sheet list space : List ℕ) where
+  -- the sheet is refused
+  pub unread_totals : {r : Refusal} → sheet_of sheet ≡ Err r → space ≡ call_totals sheet list space
+  unfolding call_totals
+  unread_totals e = rw e
 
-  -- the totals that the code wrote, whatever the answer
-  pub table_written :
-      {x : Totals} {left : List ℕ} → table_fault t ≡ 0 → length list < 2 ^ 48 → x ≡ (account_of t list).totals → left ≡ totals_space x space
-      → left ≡ table_totals t list space
-  unfolding table_totals
-  table_written valid short e f =
-      f ∙ rw (e, lt-leb (2 ^ 48) (length list) short) (answer_written (replayed t list).answer (account_of t list).totals space (replayed_eleven t valid list))
+  module _ {t : Table} (read : sheet_of sheet ≡ Ok t) where
+    pub long_totals : 2 ^ 48 ≤ length list → space ≡ call_totals sheet list space
+    unfolding call_totals table_totals
+    long_totals h = rw (read, le-leb (2 ^ 48) (length list) h)
+
+    -- the totals of a valid table are written, whatever the answer
+    pub totals_written :
+        ((j : ℕ) → get_or sheet j 0 < 256) → length list < 2 ^ 48 → totals_space (account_of t list).totals space ≡ call_totals sheet list space
+    unfolding call_totals table_totals
+    totals_written byte short =
+        rw (read, lt-leb (2 ^ 48) (length list) short)
+        (answer_written (replayed t list).answer (account_of t list).totals space (replayed_eleven t (read_valid sheet byte t read) list))
 
 -- ---- the balance, in the bytes that the call leaves
 
@@ -77,12 +84,9 @@ module _ (t : Table) (valid : table_fault t ≡ 0) (list : List ℕ) (short : le
 
 -- THEOREM: after every call with an accepted sheet and room for the totals, whatever the list and the answer, the bytes of each task balance
 pub service_balanced :
-    (sheet list space : List ℕ) → ((j : ℕ) → get_or sheet j 0 < 256) → (sheet_of sheet).answer ≡ Reading.Accepted → length list < 2 ^ 48
+    (sheet list space : List ℕ) → ((j : ℕ) → get_or sheet j 0 < 256) → {t : Table} → sheet_of sheet ≡ Ok t → length list < 2 ^ 48
     → 192 ≤ length space → (i : ℕ) → i < 8
-    → total_at (call_totals sheet list space) i 0 * get_or (sheet_of sheet).table.work i 0
+    → total_at (call_totals sheet list space) i 0 * get_or t.work i 0
     ≡ total_at (call_totals sheet list space) i 1 + total_at (call_totals sheet list space) i 2
-unfolding call_totals
-service_balanced sheet list space byte accepted short room i h =
-    let t = (sheet_of sheet).table in
-    let valid = read_valid sheet byte t (read_accepted (sheet_of sheet) accepted) in
-    rw (accepted, sym (table_written t list space valid short refl refl)) (bytes_balanced t valid list short i h space room)
+service_balanced sheet list space byte {t} read short room i h =
+    rw (← totals_written sheet list space read byte short) (bytes_balanced t (read_valid sheet byte t read) list short i h space room)

@@ -1,7 +1,6 @@
 -- The laws of a table's 27 bytes and of its two calls. Assumes nothing.
 use Prim.Native.Nat.{ℕ, zero, suc, ◌+◌, ◌-◌, ◌*◌, ◌^◌, ◌≤◌, ◌<◌}
 use mathlib.Core.Path.{◌≡◌, refl, ap, ◌∙◌}
-use mathlib.Core.Bool.{true, false}
 use mathlib.Core.List.{List, [], ◌∷◌, ◌++◌}
 use native.Mathlib.Omega.{arith}
 use lib.Dec.{ltb}
@@ -10,15 +9,17 @@ use lib.Seq.{sets, sets-eq}
 use borrow.Author.Tests.{lt-ltb, le-ltb, ltb-true, ltb-false}
 use Rattle.lists.specs.Lists.{pick}
 use Rattle.tasks.specs.Table.{table_fault}
+use Rattle.std.specs.Prelude.{Result, Ok, Err, IfOk}
+use Rattle.tasks.specs.Refusals.{refusal_number}
 use Rattle.tasks.specs.Answers.{writing_answer}
-use Rattle.tasks.specs.Sheet.{sheet_of, sheet_bytes, write_refusal, write_answer, write_out}
+use Rattle.tasks.specs.Sheet.{sheet_of, write_refusal, write_answer, write_out}
 use Rattle.tasks.specs.declared.table.Table.{Table}
-use Rattle.tasks.specs.declared.sheet.Reading.TheVariants as Reading
-use Rattle.tasks.specs.declared.writer.Writing.TheVariants as Writing
+use Rattle.tasks.specs.declared.refusal.Refusal.{Refusal}
 use Rattle.lists.proofs.Bools.{by_bool}
-use Rattle.tasks.proofs.Answers.{writing_is}
+use Rattle.tasks.proofs.Answers.{other, second}
+use Rattle.tasks.proofs.Refusals.{refusal_some}
 use Rattle.tasks.proofs.Sheets.{sheet_short}
-use Rattle.ronchhek.specs.Tables.{entries, table_bytes, table_from, read_number, read_space, sheet_number, bytes_refusal, write_number, write_space}
+use Rattle.ronchhek.specs.Tables.{number_of, entries, table_bytes, table_from, read_number, read_space, sheet_number, bytes_refusal, write_number, write_space}
 
 -- ---- the 27 bytes written
 
@@ -45,31 +46,21 @@ table_length t = omega (arith, entries_length t 8 0)
 -- ---- the calls
 
 module _ (sheet space : List ℕ) where
-  pub read_refused : {r : ℕ} → 0 < r → (sheet_of sheet).answer ≡ Reading.Refused r → (r ≡ read_number sheet space) × (space ≡ read_space sheet space)
+  pub read_refused : {r : Refusal} → sheet_of sheet ≡ Err r → (refusal_number r ≡ read_number sheet space) × (space ≡ read_space sheet space)
   unfolding read_number read_space
-  read_refused {r} h e = let l = lt-ltb 0 r h in (rw (e, l), rw (e, l))
+  read_refused {r} e = let l = lt-ltb 0 (refusal_number r) (refusal_some r) in (rw (e, l), rw (e, l))
 
-  module _ (e : (sheet_of sheet).answer ≡ Reading.Accepted) where
+  module _ {t : Table} (e : sheet_of sheet ≡ Ok t) where
     pub read_short : length space < 27 → (12 ≡ read_number sheet space) × (space ≡ read_space sheet space)
     unfolding read_number read_space
     read_short h = let s = lt-ltb (length space) 27 h in (rw (e, s), rw (e, s))
 
-    pub read_done : 27 ≤ length space → (2 ^ 48 + 27 ≡ read_number sheet space) × (sets space 0 (table_bytes (sheet_of sheet).table) ≡ read_space sheet space)
+    pub read_done : 27 ≤ length space → (2 ^ 48 + 27 ≡ read_number sheet space) × (sets space 0 (table_bytes t) ≡ read_space sheet space)
     unfolding read_number read_space table_bytes entries
     read_done h =
         let s = le-ltb (length space) 27 h in
-        let t = (sheet_of sheet).table in
         let l : length (table_bytes t) ≡ 27 = table_length t in
         (rw (e, s), rw (e, s) (sets-eq (table_bytes t) space 0 (omega arith) ∙ ap (λ n. table_bytes t ++ drop n space) l))
-
--- what the writer answers, in one of its two ways
-answer_refused : (t : Table) (out : List ℕ) → ltb 0 (write_refusal t out) ≡ true → write_answer t out ≡ writing_answer (Writing.Refused (write_refusal t out))
-unfolding write_answer writing_answer
-answer_refused t out h = rw h
-
-answer_written : (t : Table) (out : List ℕ) → ltb 0 (write_refusal t out) ≡ false → write_answer t out ≡ writing_answer (Writing.Written (length (sheet_bytes t)))
-unfolding write_answer writing_answer
-answer_written t out h = rw h
 
 fault_none : (t : Table) (out : List ℕ) → write_refusal t out ≤ 0 → table_fault t ≡ 0
 unfolding write_refusal
@@ -79,32 +70,20 @@ fault_none t out h =
     (λ e. omega (arith, ltb-false 0 (table_fault t) e))
 
 module _ (t : Table) (out : List ℕ) where
-  -- the writer refuses the table
-  pub sheet_refused : {r : ℕ} → writing_answer (Writing.Refused r) ≡ write_answer t out → r ≡ sheet_number t out
-  unfolding sheet_number
-  sheet_refused {r} e =
+  -- LAW: the number of what the writer answers
+  pub sheet_told : (a : Result ℕ Refusal) → writing_answer a ≡ write_answer t out → (number_of a ≡ sheet_number t out) × IfOk a (λ n. n ≤ 52)
+  unfolding sheet_number write_answer writing_answer
+  sheet_told (Ok n) e =
       by_bool (ltb 0 (write_refusal t out))
+      (λ h. other (λ x. omega arith) (rw h at e))
       (λ h.
-      let q : Writing.Refused r ≡ Writing.Refused (write_refusal t out) = writing_is (e ∙ answer_refused t out h) in
-      let is : r ≡ write_refusal t out = cc in
-      rw h is)
-      (λ h.
-      let q : Writing.Refused r ≡ Writing.Written (length (sheet_bytes t)) = writing_is (e ∙ answer_written t out h) in
-      absurd (let z : ◌≡◌ {A = ℕ} 0 1 = cc in omega arith))
-
-  -- the sheet is written
-  pub sheet_written : {n : ℕ} → writing_answer (Writing.Written n) ≡ write_answer t out → (n ≤ 52) × (2 ^ 48 + n ≡ sheet_number t out)
-  unfolding sheet_number
-  sheet_written {n} e =
-      by_bool (ltb 0 (write_refusal t out))
-      (λ h.
-      let q : Writing.Written n ≡ Writing.Refused (write_refusal t out) = writing_is (e ∙ answer_refused t out h) in
-      absurd (let z : ◌≡◌ {A = ℕ} 0 1 = cc in omega arith))
-      (λ h.
-      let q : Writing.Written n ≡ Writing.Written (length (sheet_bytes t)) = writing_is (e ∙ answer_written t out h) in
-      let is : n ≡ length (sheet_bytes t) = cc in
+      let is = second (rw h at e) in
       let short = sheet_short t (fault_none t out (ltb-false 0 (write_refusal t out) h)) in
-      (omega arith, rw h (ap (λ k. 2 ^ 48 + k) is)))
+      (rw h (ap (λ k. 2 ^ 48 + k) is), omega arith))
+  sheet_told (Err r) e =
+      by_bool (ltb 0 (write_refusal t out))
+      (λ h. (rw h (second (rw h at e)), tt))
+      (λ h. other (λ x. omega arith) (rw h at e))
 
   -- a refusal leaves the output
   pub out_stays : write_out t out ≡ pick (ltb 0 (write_refusal t out)) out (write_out t out)

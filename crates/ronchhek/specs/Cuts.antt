@@ -2,7 +2,7 @@
 -- with N the refusal's number.
 use Rattle.std.specs.Prelude.{ℕ, List, ltb}
 use Rattle.lists.specs.Lists.{pick}
-use Rattle.tasks.specs.Sheet.{sheet_of, after_reading, write_out, out_if_read}
+use Rattle.tasks.specs.Sheet.{sheet_of, table_in, after_reading, write_out, out_if_read}
 use Rattle.tasks.specs.declared.table.Table.{Table}
 use Rattle.cut.specs.Cut.{cut_table, cut_refusal}
 use Rattle.ronchhek.specs.Tables.{sheet_number}
@@ -21,8 +21,8 @@ first_space t k out = pick (ltb 0 (cut_refusal t k)) out (write_out (cut_table k
 
 -- the number returned
 unfoldable pub cut_number : List ℕ → ℕ → List ℕ → ℕ
-cut_number sheet k out = after_reading (sheet_of sheet).answer (first_number (sheet_of sheet).table k out)
+cut_number sheet k out = after_reading (sheet_of sheet) (first_number (table_in (sheet_of sheet)) k out)
 
 -- the output afterwards
 unfoldable pub cut_space : List ℕ → ℕ → List ℕ → List ℕ
-cut_space sheet k out = out_if_read (sheet_of sheet).answer (first_space (sheet_of sheet).table k out) out
+cut_space sheet k out = out_if_read (sheet_of sheet) (first_space (table_in (sheet_of sheet)) k out) out

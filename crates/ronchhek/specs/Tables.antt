@@ -1,10 +1,18 @@
 -- A table as 27 bytes for the plotter's C build: policy, m, n, then C, D, P of task 1, of task 2 and so on to the eighth (document 01, "The
 -- task table"). The answers are kind × 2^48 + N: kind 1 done with N the length written, kind 0 refused with N the refusal's number.
-use Rattle.std.specs.Prelude.{ℕ, zero, suc, ◌+◌, ◌*◌, ◌^◌, List, [], ◌∷◌, ◌++◌, ltb, length, get_or, drop}
+use Rattle.std.specs.Prelude.{ℕ, zero, suc, ◌+◌, ◌*◌, ◌^◌, List, [], ◌∷◌, ◌++◌, ltb, length, get_or, drop, Result, Ok, Err}
 use Rattle.lists.specs.Lists.{eight, pick}
-use Rattle.tasks.specs.Sheet.{sheet_of, sheet_bytes, write_refusal, write_out}
+use Rattle.tasks.specs.Refusals.{refusal_number}
+use Rattle.tasks.specs.Sheet.{sheet_of, table_in, sheet_bytes, write_refusal, write_out}
+use Rattle.tasks.specs.declared.refusal.Refusal.{Refusal}
 use Rattle.tasks.specs.declared.table.Table.{Table}
-use Rattle.tasks.specs.declared.sheet.Reading.{Reading}
+
+-- ---- the number of an answer
+
+-- kind 1 with the length written, or the refusal's number
+abbrev pub number_of : Result ℕ Refusal → ℕ
+number_of (Ok n) = 2 ^ 48 + n
+number_of (Err r) = refusal_number r
 
 -- ---- a table's 27 bytes
 
@@ -31,9 +39,9 @@ table_from b =
 -- ---- the table of a sheet
 
 -- refusals 1 to 8 of the sheet, then 12 where the space is shorter than 27 bytes; 0 where there is none
-abbrev pub read_refusal : Reading → List ℕ → ℕ
-read_refusal Reading.Accepted space = pick (ltb (length space) 27) 12 0
-read_refusal (Reading.Refused r) space = r
+abbrev pub read_refusal : Result Table Refusal → List ℕ → ℕ
+read_refusal (Ok t) space = pick (ltb (length space) 27) 12 0
+read_refusal (Err r) space = refusal_number r
 
 -- a refusal's number, or kind 1 with the length written
 abbrev pub done : ℕ → ℕ → ℕ
@@ -41,12 +49,12 @@ done refusal n = pick (ltb 0 refusal) refusal (2 ^ 48 + n)
 
 -- the number returned
 unfoldable pub read_number : List ℕ → List ℕ → ℕ
-read_number sheet space = done (read_refusal (sheet_of sheet).answer space) 27
+read_number sheet space = done (read_refusal (sheet_of sheet) space) 27
 
 -- the space afterwards: the table at its front, later bytes as they were; a refusal leaves every byte
 unfoldable pub read_space : List ℕ → List ℕ → List ℕ
 read_space sheet space =
-    pick (ltb 0 (read_refusal (sheet_of sheet).answer space)) space (table_bytes (sheet_of sheet).table ++ drop 27 space)
+    pick (ltb 0 (read_refusal (sheet_of sheet) space)) space (table_bytes (table_in (sheet_of sheet)) ++ drop 27 space)
 
 -- ---- the sheet of a table
 

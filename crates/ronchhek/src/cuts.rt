@@ -1,21 +1,20 @@
 // The C call that writes the sheet of a cut table.
-ghost use Rattle.std.specs.Prelude.{◌≡◌};
-ghost use Rattle.ronchhek.specs.Cuts.{first_number, first_space, cut_number, cut_space};
+ghost use Rattle.std.specs.Prelude.{◌≡◌, ◌≤◌, IfOk};
+ghost use Rattle.ronchhek.specs.Tables.{number_of};
+ghost use Rattle.ronchhek.specs.Cuts.{cut_number, cut_space};
 
-use crate::tables::write_table;
-use tasks::{Reading, Table};
+use crate::tables::number_of;
+use tasks::Refusal;
 
-// The sheet of a table cut to its first k tasks.
-fn write_first(t: Table, k: u8, out: &mut [u8]) -> u64
-    ensures { (result ≡ first_number t k out.old) × (out.new ≡ first_space t k out.old) }
+// Writes the sheet of a sheet's table cut to its first k tasks, and answers its length.
+fn write_cut(sheet: &[u8], k: u8, out: &mut [u8]) -> Result<usize, Refusal>
+    ensures number { number_of result ≡ cut_number sheet.now k out.old }
+    ensures few { IfOk result (λ n. n ≤ 52) }
+    ensures space { out.new ≡ cut_space sheet.now k out.old }
 {
-    let first = cut::cut_table(t, k);
-    let answer = first.answer;
-    let table = first.table;
-    match answer {
-        Reading::Refused(r) => r as u64,
-        Reading::Accepted => write_table(table, out),
-    }
+    let table = tasks::read_sheet(sheet)?;
+    let first = cut::cut_table(table, k)?;
+    tasks::write_sheet(first, out)
 }
 
 // The sheet of a sheet's table cut to its first k tasks: kind 1 with the sheet's length, kind 0 with the refusal's number.
@@ -23,11 +22,5 @@ fn write_first(t: Table, k: u8, out: &mut [u8]) -> u64
 pub extern "C" fn ronchhek_cut(sheet: &[u8], k: u8, out: &mut [u8]) -> u64
     ensures { (result ≡ cut_number sheet.now k out.old) × (out.new ≡ cut_space sheet.now k out.old) }
 {
-    let read = tasks::read_sheet(sheet);
-    let answer = read.answer;
-    let table = read.table;
-    match answer {
-        Reading::Refused(r) => r as u64,
-        Reading::Accepted => write_first(table, k, out),
-    }
+    number_of(write_cut(sheet, k, out))
 }

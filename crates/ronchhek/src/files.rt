@@ -2,16 +2,15 @@
 ghost use Rattle.ronchhek.specs.Files.{FileJudged};
 
 use crate::tables::DONE;
-use closed::ClosedAnswer;
 
-// Whether a file of states is closed under the ticks of a sheet's table: kind × 2^48 + N, kind 1 accepted, 2 No, 0 with the refusal's number N.
+// Whether a file of states is closed under the ticks of a sheet's table: kind × 2^48 + N, kind 1 accepted, 2 No, 0 refused with N.
 #[unsafe(no_mangle)]
 pub extern "C" fn ronchhek_closed(sheet: &[u8], states: &[u8]) -> u64
     ensures { FileJudged sheet.now states.now result }
 {
     match closed::closed_sheet(sheet, states) {
-        ClosedAnswer::Accepted => DONE,
-        ClosedAnswer::No => 2 * DONE,
-        ClosedAnswer::Refused(r) => r as u64,
+        Ok(true) => DONE,
+        Ok(false) => 2 * DONE,
+        Err(why) => u64::from(why.number()),
     }
 }

@@ -1,5 +1,5 @@
-// The calls for C, thin over `tasks`, `service`, `practice`, `cut`, `session_bytes`, `search` and `closed`: a sheet's verdict, its evidence, the replay of a list and
-// its totals, a sheet's table as bytes, practice sheets, the sheets of cut tables, and sessions.
+// The calls for C, thin over `tasks`, `service`, `practice`, `cut`, `session_bytes`, `search` and `closed`: a sheet's verdict, its
+// evidence, the replay of a list and its totals, a sheet's table as bytes, practice sheets, the sheets of cut tables, and sessions.
 #![tactic(auto)]
 
 mod cuts;

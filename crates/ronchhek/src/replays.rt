@@ -1,49 +1,69 @@
 // The C call that replays a release list.
 ghost use Rattle.std.specs.Prelude.{◌≡◌, ◌<◌};
-ghost use Rattle.tasks.specs.Replay.{outcome_tick};
-ghost use Rattle.ronchhek.specs.Replays.{refused_at, outcome_number, table_number, table_space, call_number, call_space};
+ghost use Rattle.tasks.specs.Replay.{replay_tick};
+ghost use Rattle.ronchhek.specs.Replays.{outcome_of, replay_number, answer_tick, call_number, call_space};
 
-use tasks::{Outcome, Reading, ReplayAnswer, Table, Writing};
+use tasks::{Outcome, Refusal, ReplayAnswer};
 
-// The units of a refusal's number, 2^48, and of a kind, 2^56.
-const NUMBER: u64 = 281474976710656;
+// The units of a refusal's number and of a kind.
+const NUMBER: u64 = 1 << 48;
 
-const KIND: u64 = 72057594037927936;
+const KIND: u64 = 1 << 56;
 
-pub(crate) fn refused_at(r: u8, tick: usize) -> u64
-    requires { tick < 281474976710656 }
-    ensures { result ≡ refused_at r tick }
-{
-    (r as u64) * NUMBER + (tick as u64)
+// A list of so many ticks has no room in an answer.
+pub(crate) const TICKS: usize = 1 << 48;
+
+// Why a list was not played, and the number of the tick that was refused, or 0.
+#[derive(Clone, Copy, Debug, PartialEq, Eq)]
+pub(crate) struct RefusedAt {
+    pub why: Refusal,
+    pub tick: usize,
 }
 
-pub(crate) fn outcome_number(o: Outcome) -> u64
-    requires { outcome_tick o < 281474976710656 }
-    ensures { result ≡ outcome_number o }
-{
-    match o {
-        Outcome::Kept => KIND,
-        Outcome::Missed(k) => 2 * KIND + (k as u64),
+impl From<Refusal> for RefusedAt {
+    ghost from_gives = { λ why e. e ≡ record { why = why; tick = 0 } };
+
+    fn from(why: Refusal) -> RefusedAt {
+        RefusedAt { why, tick: 0 }
     }
 }
 
-// Replays a list with a table, and writes the state that a played list ends with.
-fn replay_table(t: Table, list: &[u8], state: &mut [u8]) -> u64
-    ensures { (result ≡ table_number 16 t list.now state.old) × (state.new ≡ table_space t list.now state.old) }
+// How a list was played, or why it was not.
+pub(crate) fn outcome_of(answer: ReplayAnswer) -> Result<Outcome, RefusedAt>
+    ensures { (result ≡ outcome_of answer) × (answer_tick result ≡ replay_tick answer) }
 {
-    if 281474976710656 <= list.len() {
-        return refused_at(12, 0);
-    }
-    let played = tasks::replay(t, list);
-    let answer = played.answer;
-    let last = played.state;
     match answer {
-        ReplayAnswer::Refused(r, tick) => refused_at(r, tick),
-        ReplayAnswer::Played(o) => match slots::write_state(last, state) {
-            Writing::Refused(r) => refused_at(r, 0),
-            Writing::Written(_) => outcome_number(o),
-        },
+        ReplayAnswer::Played(outcome) => Ok(outcome),
+        ReplayAnswer::Refused(why, tick) => Err(RefusedAt { why, tick }),
     }
+}
+
+// The number of an answer.
+pub(crate) fn replay_number(answer: Result<Outcome, RefusedAt>) -> u64
+    requires { answer_tick answer < 281474976710656 }
+    ensures { result ≡ replay_number answer }
+{
+    match answer {
+        Ok(Outcome::Kept) => KIND,
+        Ok(Outcome::Missed(tick)) => 2 * KIND + tick as u64,
+        Err(RefusedAt { why, tick }) => u64::from(why.number()) * NUMBER + tick as u64,
+    }
+}
+
+// Replays a list with a sheet's table, and writes the state that a played list ends with.
+fn replay_sheet(sheet: &[u8], list: &[u8], state: &mut [u8]) -> Result<Outcome, RefusedAt>
+    ensures number { replay_number result ≡ call_number 16 sheet.now list.now state.old }
+    ensures few { answer_tick result < 281474976710656 }
+    ensures space { state.new ≡ call_space sheet.now list.now state.old }
+{
+    let table = tasks::read_sheet(sheet)?;
+    if TICKS <= list.len() {
+        return Err(Refusal::ShortOutput.into());
+    }
+    let played = tasks::replay(table, list);
+    let outcome = outcome_of(played.answer)?;
+    slots::write_state(played.state, state)?;
+    Ok(outcome)
 }
 
 // The replay of a sheet's table.
@@ -51,11 +71,5 @@ fn replay_table(t: Table, list: &[u8], state: &mut [u8]) -> u64
 pub extern "C" fn ronchhek_replay(sheet: &[u8], list: &[u8], state: &mut [u8]) -> u64
     ensures { (result ≡ call_number 16 sheet.now list.now state.old) × (state.new ≡ call_space sheet.now list.now state.old) }
 {
-    let read = tasks::read_sheet(sheet);
-    let answer = read.answer;
-    let table = read.table;
-    match answer {
-        Reading::Refused(r) => refused_at(r, 0),
-        Reading::Accepted => replay_table(table, list, state),
-    }
+    replay_number(replay_sheet(sheet, list, state))
 }

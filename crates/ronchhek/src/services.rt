@@ -1,31 +1,26 @@
 // The C call that replays a release list and writes the totals of each task.
-ghost use Rattle.std.specs.Prelude.{◌≡◌};
-ghost use Rattle.tasks.specs.Table.{table_fault};
-ghost use Rattle.ronchhek.specs.Replays.{table_number, call_number};
-ghost use Rattle.ronchhek.specs.Services.{table_totals, call_totals};
+ghost use Rattle.std.specs.Prelude.{◌≡◌, ◌<◌};
+ghost use Rattle.ronchhek.specs.Replays.{replay_number, answer_tick, call_number};
+ghost use Rattle.ronchhek.specs.Services.{call_totals};
 
-use crate::replays::{outcome_number, refused_at};
-use tasks::{Reading, ReplayAnswer, Table, Writing};
+use crate::replays::{RefusedAt, TICKS, outcome_of, replay_number};
+use tasks::{Outcome, Refusal};
 
-// Replays a list with a valid table, which is refused with 11 or not at all, and writes the totals whatever the answer.
-fn service_table(t: Table, list: &[u8], totals: &mut [u8]) -> u64
-    requires { table_fault t ≡ 0 }
-    ensures { (result ≡ table_number 192 t list.now totals.old) × (totals.new ≡ table_totals t list.now totals.old) }
+// Replays a list with a sheet's table, which is valid, so only its masks are refused, and writes the totals whatever the answer.
+fn service_sheet(sheet: &[u8], list: &[u8], totals: &mut [u8]) -> Result<Outcome, RefusedAt>
+    ensures number { replay_number result ≡ call_number 192 sheet.now list.now totals.old }
+    ensures few { answer_tick result < 281474976710656 }
+    ensures space { totals.new ≡ call_totals sheet.now list.now totals.old }
 {
-    if 281474976710656 <= list.len() {
-        return refused_at(12, 0);
+    let table = tasks::read_sheet(sheet)?;
+    if TICKS <= list.len() {
+        return Err(Refusal::ShortOutput.into());
     }
-    let account = service::service(t, list);
-    let replayed = account.replayed;
-    let answer = replayed.answer;
+    let account = service::service(table, list);
     let written = service::write_totals(account.totals, totals);
-    match answer {
-        ReplayAnswer::Refused(r, tick) => refused_at(r, tick),
-        ReplayAnswer::Played(o) => match written {
-            Writing::Refused(r) => refused_at(r, 0),
-            Writing::Written(_) => outcome_number(o),
-        },
-    }
+    let outcome = outcome_of(account.replayed.answer)?;
+    written?;
+    Ok(outcome)
 }
 
 // The replay of a sheet's table, with its totals.
@@ -33,11 +28,5 @@ fn service_table(t: Table, list: &[u8], totals: &mut [u8]) -> u64
 pub extern "C" fn ronchhek_service(sheet: &[u8], list: &[u8], totals: &mut [u8]) -> u64
     ensures { (result ≡ call_number 192 sheet.now list.now totals.old) × (totals.new ≡ call_totals sheet.now list.now totals.old) }
 {
-    let read = tasks::read_sheet(sheet);
-    let answer = read.answer;
-    let table = read.table;
-    match answer {
-        Reading::Refused(r) => refused_at(r, 0),
-        Reading::Accepted => service_table(table, list, totals),
-    }
+    replay_number(service_sheet(sheet, list, totals))
 }

@@ -2,19 +2,21 @@
 ghost use Rattle.std.specs.Prelude.{◌≡◌};
 ghost use Rattle.session.specs.declared.calls.Call.TheVariants as Call;
 ghost use Rattle.session_bytes.specs.Space.{sheet_space};
-ghost use Rattle.ronchhek.specs.Sessions.{session_number, call_number};
+ghost use Rattle.ronchhek.specs.Sessions.{call_number};
 
 use crate::tables::DONE;
-use session::{Call, SessionAnswer};
+use session::Call;
+use tasks::Step;
 
-// The number of an answer.
-fn session_number(answer: SessionAnswer) -> u64
-    ensures { result ≡ session_number answer }
+// Makes a call, and answers its number.
+#[tactic(auto, unfolding(crate::specs::Sessions::call_number))]
+fn call_number(sheet: &[u8], session: &mut [u8], call: Call) -> u64
+    ensures { (result ≡ call_number sheet.now session.old call) × (session.new ≡ sheet_space sheet.now session.old call) }
 {
-    match answer {
-        SessionAnswer::Done => DONE,
-        SessionAnswer::Missed => 2 * DONE,
-        SessionAnswer::Refused(r) => r as u64,
+    match session_bytes::call_sheet(sheet, session, call) {
+        Ok(Step::Next) => DONE,
+        Ok(Step::Missed) => 2 * DONE,
+        Err(why) => u64::from(why.number()),
     }
 }
 
@@ -23,7 +25,7 @@ fn session_number(answer: SessionAnswer) -> u64
 pub extern "C" fn ronchhek_session_step(sheet: &[u8], session: &mut [u8], mask: u8) -> u64
     ensures { (result ≡ call_number sheet.now session.old (Call.Step mask)) × (session.new ≡ sheet_space sheet.now session.old (Call.Step mask)) }
 {
-    session_number(session_bytes::call_sheet(sheet, session, Call::Step(mask)))
+    call_number(sheet, session, Call::Step(mask))
 }
 
 // Sets a mark: kind 1 done, kind 0 with the refusal's number.
@@ -31,7 +33,7 @@ pub extern "C" fn ronchhek_session_step(sheet: &[u8], session: &mut [u8], mask: 
 pub extern "C" fn ronchhek_session_mark(sheet: &[u8], session: &mut [u8], mark: u8) -> u64
     ensures { (result ≡ call_number sheet.now session.old (Call.SetMark mark)) × (session.new ≡ sheet_space sheet.now session.old (Call.SetMark mark)) }
 {
-    session_number(session_bytes::call_sheet(sheet, session, Call::SetMark(mark)))
+    call_number(sheet, session, Call::SetMark(mark))
 }
 
 // Returns to a mark: kind 1 done, kind 0 with the refusal's number.
@@ -39,5 +41,5 @@ pub extern "C" fn ronchhek_session_mark(sheet: &[u8], session: &mut [u8], mark: 
 pub extern "C" fn ronchhek_session_return(sheet: &[u8], session: &mut [u8], mark: u8) -> u64
     ensures { (result ≡ call_number sheet.now session.old (Call.ReturnTo mark)) × (session.new ≡ sheet_space sheet.now session.old (Call.ReturnTo mark)) }
 {
-    session_number(session_bytes::call_sheet(sheet, session, Call::ReturnTo(mark)))
+    call_number(sheet, session, Call::ReturnTo(mark))
 }

@@ -1,15 +1,25 @@
 // A sheet's table as 27 bytes, and the sheet of such a table.
-ghost use Rattle.std.specs.Prelude.{◌≡◌, ◌+◌, ◌*◌, ◌≤◌, length, get_or};
+ghost use Rattle.std.specs.Prelude.{◌≡◌, ◌+◌, ◌*◌, ◌≤◌, length, get_or, IfOk};
 ghost use Rattle.std.proofs.lemmas.List.Edits.{sets};
 ghost use Rattle.lists.specs.Lists.{eight};
-ghost use Rattle.tasks.specs.Sheet.{write_out};
-ghost use Rattle.ronchhek.specs.Tables.{table_bytes, table_from, read_number, read_space, sheet_number, write_number, write_space};
+ghost use Rattle.ronchhek.specs.Tables.{table_bytes, table_from, number_of, read_number, read_space, write_number, write_space};
 
 use std::array;
-use tasks::{Reading, Table, Writing};
+use tasks::{Refusal, Table};
 
-// 2^48: kind 1.
-pub(crate) const DONE: u64 = 281474976710656;
+// Kind 1.
+pub(crate) const DONE: u64 = 1 << 48;
+
+// The number of an answer: kind 1 with the length written, kind 0 with the refusal's number.
+pub(crate) fn number_of(answer: Result<usize, Refusal>) -> u64
+    requires { IfOk answer (λ n. n ≤ 52) }
+    ensures { result ≡ number_of answer }
+{
+    match answer {
+        Ok(n) => DONE + n as u64,
+        Err(why) => u64::from(why.number()),
+    }
+}
 
 // One number of each of eight tasks, the first at `at` and then every third byte.
 fn column(b: &[u8], at: usize) -> [u8; 8]
@@ -50,34 +60,41 @@ fn put_table(out: &mut [u8], t: Table)
     }
 }
 
+// Writes the 27 bytes of a sheet's table, and answers their number.
+fn read_table(sheet: &[u8], table: &mut [u8]) -> Result<usize, Refusal>
+    ensures number { number_of result ≡ read_number sheet.now table.old }
+    ensures few { IfOk result (λ n. n ≤ 52) }
+    ensures space { table.new ≡ read_space sheet.now table.old }
+{
+    let t = tasks::read_sheet(sheet)?;
+    if table.len() < 27 {
+        return Err(Refusal::ShortOutput);
+    }
+    put_table(table, t);
+    Ok(27)
+}
+
 // The table of a sheet: kind × 2^48 + N, kind 1 with the 27 bytes written, kind 0 with the refusal's number.
 #[unsafe(no_mangle)]
 pub extern "C" fn ronchhek_read(sheet: &[u8], table: &mut [u8]) -> u64
     ensures { (result ≡ read_number sheet.now table.old) × (table.new ≡ read_space sheet.now table.old) }
 {
-    let read = tasks::read_sheet(sheet);
-    let answer = read.answer;
-    let t = read.table;
-    match answer {
-        Reading::Refused(r) => r as u64,
-        Reading::Accepted => {
-            if table.len() < 27 {
-                return 12;
-            }
-            put_table(table, t);
-            DONE + 27
-        }
-    }
+    number_of(read_table(sheet, table))
 }
 
-// Writes the sheet of a table: kind 1 with the sheet's length, kind 0 with the refusal's number.
-pub(crate) fn write_table(t: Table, out: &mut [u8]) -> u64
-    ensures { (result ≡ sheet_number t out.old) × (out.new ≡ write_out t out.old) }
+// Writes the sheet of a table of 27 bytes, and answers its length.
+fn write_table(table: &[u8], out: &mut [u8]) -> Result<usize, Refusal>
+    ensures number { number_of result ≡ write_number table.now out.old }
+    ensures few { IfOk result (λ n. n ≤ 52) }
+    ensures space { out.new ≡ write_space table.now out.old }
 {
-    match tasks::write_sheet(t, out) {
-        Writing::Refused(r) => r as u64,
-        Writing::Written(n) => DONE + (n as u64),
+    if table.len() < 27 {
+        return Err(Refusal::Incomplete);
     }
+    if 27 < table.len() {
+        return Err(Refusal::LaterBytes);
+    }
+    tasks::write_sheet(table_from(table), out)
 }
 
 // The sheet of a table of 27 bytes: kind 1 with the sheet's length, kind 0 with the refusal's number.
@@ -85,11 +102,5 @@ pub(crate) fn write_table(t: Table, out: &mut [u8]) -> u64
 pub extern "C" fn ronchhek_write(table: &[u8], out: &mut [u8]) -> u64
     ensures { (result ≡ write_number table.now out.old) × (out.new ≡ write_space table.now out.old) }
 {
-    if table.len() < 27 {
-        return 1;
-    }
-    if 27 < table.len() {
-        return 8;
-    }
-    write_table(table_from(table), out)
+    number_of(write_table(table, out))
 }

@@ -1,19 +1,20 @@
 -- The number of each answer. Assumes nothing.
-use Rattle.closed.specs.declared.check.ClosedAnswer.TheVariants as ClosedAnswer
+use mathlib.Core.Path.{◌≡◌}
+use mathlib.Core.Bool.{true, false}
+use Rattle.std.proofs.Common.{rules}
+use Rattle.std.specs.Prelude.{Ok, Err}
 use Rattle.ronchhek.proofs.FileLaws.{file_judged}
 use Rattle.ronchhek.proofs.files.ronchhek_closed.Goals as goal
 
-pub returns-in-Accepted : goal.returns-in-Accepted
-returns-in-Accepted c =
-    let a = c.args in
-    file_judged a.sheet.now a.states.now ClosedAnswer.Accepted (rw c.in-Accepted.is at c.closed_sheet.ensures)
+pub returns-in-Ok-true : goal.returns-in-Ok-true
+returns-in-Ok-true c =
+    let e : c.closed_sheet.result ≡ Ok true = search rules in
+    file_judged c.args.sheet.now c.args.states.now (Ok true) (rw e at c.closed_sheet.ensures)
 
-pub returns-in-No : goal.returns-in-No
-returns-in-No c =
-    let a = c.args in
-    file_judged a.sheet.now a.states.now ClosedAnswer.No (rw c.in-No.is at c.closed_sheet.ensures)
+pub returns-in-Ok-false : goal.returns-in-Ok-false
+returns-in-Ok-false c =
+    let e : c.closed_sheet.result ≡ Ok false = search rules in
+    file_judged c.args.sheet.now c.args.states.now (Ok false) (rw e at c.closed_sheet.ensures)
 
-pub returns-in-Refused : goal.returns-in-Refused
-returns-in-Refused c =
-    let a = c.args in
-    file_judged a.sheet.now a.states.now (ClosedAnswer.Refused _) (rw c.in-Refused.is at c.closed_sheet.ensures)
+pub returns-in-Err : goal.returns-in-Err
+returns-in-Err c = rw (c.from.ensures, c.number.ensures) (file_judged c.args.sheet.now c.args.states.now (Err c.in-Err.why) c.in-Err.ensures)

@@ -1,22 +1,24 @@
--- The table's sheet is written or refused. Assumes nothing.
-use mathlib.Core.Path.{sym, ap, ◌∙◌}
-use Rattle.tasks.specs.Answers.{writing_answer}
-use Rattle.ronchhek.proofs.TableLaws.{sheet_refused, sheet_written}
-use native.Mathlib.Omega.{arith}
+-- The bytes are no table, or the table's sheet is written or refused. Assumes nothing.
+use mathlib.Core.Path.{◌∙◌}
+use Rattle.std.proofs.Common.{rules}
+use Rattle.ronchhek.specs.Tables.{table_from}
+use Rattle.ronchhek.proofs.TableLaws.{table_short, table_long, table_whole, sheet_told}
 use Rattle.ronchhek.proofs.tables.write_table.Goals as goal
 
-pub overflow_add-result : goal.overflow_add-result
-overflow_add-result c =
-    let a = c.args in
-    let w = sheet_written a.t a.out.now (ap writing_answer (sym c.in-Written.is) ∙ c.write_sheet.ensures.0) in
-    omega (arith, w.0)
+pub returns-then-table-lt27 : goal.returns-then-table-lt27
+returns-then-table-lt27 c =
+    let w = table_short c.args.table.now c.args.out.now c.if-table-lt27.true in
+    record { number = w.0; few = search rules; space = w.1 }
 
-pub returns-in-Refused : goal.returns-in-Refused
-returns-in-Refused c =
-    let a = c.args in
-    (sheet_refused a.t a.out.now (ap writing_answer (sym c.in-Refused.is) ∙ c.write_sheet.ensures.0), c.write_sheet.ensures.1)
+pub returns-then-table-gt27 : goal.returns-then-table-gt27
+returns-then-table-gt27 c =
+    let w = table_long c.args.table.now c.args.out.now c.if-table-gt27.true in
+    record { number = w.0; few = search rules; space = w.1 }
 
-pub returns-in-Written : goal.returns-in-Written
-returns-in-Written c =
+pub returns : goal.returns
+returns c =
     let a = c.args in
-    ((sheet_written a.t a.out.now (ap writing_answer (sym c.in-Written.is) ∙ c.write_sheet.ensures.0)).1, c.write_sheet.ensures.1)
+    let is = table_whole a.table.now a.out.now c.if-table-lt27.false c.if-table-gt27.false in
+    let written = rw c.table_from.ensures at c.write_sheet.ensures in
+    let told = sheet_told (table_from a.table.now) a.out.now c.write_sheet.result written.0 in
+    record { number = told.0 ∙ is.0; few = told.1; space = written.1 ∙ is.1 }

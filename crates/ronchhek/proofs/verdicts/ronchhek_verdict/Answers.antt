@@ -5,9 +5,9 @@ use Rattle.ronchhek.proofs.VerdictLaws.{search_low}
 use Rattle.ronchhek.proofs.verdicts.ronchhek_verdict.Goals as goal
 
 pub pack-requires : goal.pack-requires
-pack-requires c = search_low (slots_few _) c.search_sheet-a.ensures
+pack-requires c = search_low (slots_few _) c.search_sheet.ensures
 
 pub returns : goal.returns
 returns c =
     let p = c.pack.ensures in
-    record { answer = figures c.search_sheet-a.result; search = c.search_sheet-a.ensures; is = p.0; L_fits = p.1; N_fits = p.2 }
+    record { answer = figures c.search_sheet.result; search = c.search_sheet.ensures; is = p.0; L_fits = p.1; N_fits = p.2 }
