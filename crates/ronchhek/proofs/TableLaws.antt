@@ -1,10 +1,10 @@
 -- The laws of a table's 27 bytes and of its two calls. Assumes nothing.
 use Prim.Native.Nat.{ℕ, zero, suc, ◌+◌, ◌-◌, ◌*◌, ◌^◌, ◌≤◌, ◌<◌}
 use mathlib.Core.Path.{◌≡◌, refl, ap, ◌∙◌}
-use mathlib.Core.List.{List, [], ◌∷◌, ◌++◌}
+use mathlib.Core.List.{List, [], ◌∷◌, ◌++◌, append-nil}
 use native.Mathlib.Omega.{arith}
 use lib.Dec.{ltb}
-use lib.ListN.{length, get_or, drop}
+use lib.ListN.{length, get_or, drop, drop_of_length-le}
 use lib.Seq.{sets, sets-eq}
 use borrow.Author.Tests.{lt-ltb, le-ltb, ltb-true, ltb-false}
 use Rattle.lists.specs.Lists.{pick}
@@ -43,6 +43,12 @@ pub table_length : (t : Table) → length (table_bytes t) ≡ 27
 unfolding table_bytes
 table_length t = omega (arith, entries_length t 8 0)
 
+-- all bytes stored
+pub stored_whole : (t : Table) (l : List ℕ) → length l ≡ 27 → sets l 0 (table_bytes t) ≡ table_bytes t
+stored_whole t l n =
+    let k = table_length t in
+    sets-eq (table_bytes t) l 0 (omega arith) ∙ ap (λ d. table_bytes t ++ d) (drop_of_length-le l (omega arith)) ∙ append-nil (table_bytes t)
+
 -- ---- the calls
 
 module _ (sheet space : List ℕ) where
@@ -55,12 +61,9 @@ module _ (sheet space : List ℕ) where
     unfolding read_number read_space
     read_short h = let s = lt-ltb (length space) 27 h in (rw (e, s), rw (e, s))
 
-    pub read_done : 27 ≤ length space → (2 ^ 48 + 27 ≡ read_number sheet space) × (sets space 0 (table_bytes t) ≡ read_space sheet space)
-    unfolding read_number read_space table_bytes entries
-    read_done h =
-        let s = le-ltb (length space) 27 h in
-        let l : length (table_bytes t) ≡ 27 = table_length t in
-        (rw (e, s), rw (e, s) (sets-eq (table_bytes t) space 0 (omega arith) ∙ ap (λ n. table_bytes t ++ drop n space) l))
+    pub read_done : 27 ≤ length space → (2 ^ 48 + 27 ≡ read_number sheet space) × (table_bytes t ++ drop 27 space ≡ read_space sheet space)
+    unfolding read_number read_space
+    read_done h = let s = le-ltb (length space) 27 h in (rw (e, s), rw (e, s))
 
 fault_none : (t : Table) (out : List ℕ) → write_refusal t out ≤ 0 → table_fault t ≡ 0
 unfolding write_refusal

@@ -1,11 +1,13 @@
 // A sheet's table as 27 bytes, and the sheet of such a table.
-ghost use Rattle.std.specs.Prelude.{◌≡◌, ◌+◌, ◌*◌, ◌≤◌, length, get_or, IfOk};
-ghost use Rattle.std.proofs.lemmas.List.Edits.{sets};
+ghost use Rattle.std.specs.Prelude.{◌≡◌, ◌+◌, ◌*◌, ◌≤◌, get_or, IfOk};
 ghost use Rattle.lists.specs.Lists.{eight};
 ghost use Rattle.ronchhek.specs.Tables.{table_bytes, table_from, number_of, read_number, read_space, write_number, write_space};
 
 use std::array;
 use tasks::{Refusal, Table};
+
+// How many bytes a table has.
+const BYTES: usize = 27;
 
 // Kind 1.
 pub(crate) const DONE: u64 = 1 << 48;
@@ -22,16 +24,15 @@ pub(crate) fn number_of(answer: Result<usize, Refusal>) -> u64
 }
 
 // One number of each of eight tasks, the first at `at` and then every third byte.
-fn column(b: &[u8], at: usize) -> [u8; 8]
-    requires { at + 22 ≤ length b.now }
+fn column(b: &[u8; BYTES], at: usize) -> [u8; 8]
+    requires { at ≤ 5 }
     ensures { result ≡ eight (λ i. get_or b.now (at + 3 * i) 0) }
 {
     array::from_fn(|i| b[at + 3 * i])
 }
 
 // The table in 27 bytes.
-fn table_from(b: &[u8]) -> Table
-    requires { 27 ≤ length b.now }
+fn table_from(b: &[u8; BYTES]) -> Table
     ensures { result ≡ table_from b.now }
 {
     Table {
@@ -44,10 +45,9 @@ fn table_from(b: &[u8]) -> Table
     }
 }
 
-// Writes a table's 27 bytes at the front of the space.
-fn put_table(out: &mut [u8], t: Table)
-    requires { 27 ≤ length out.old }
-    ensures { out.new ≡ sets out.old 0 (table_bytes t) }
+// Writes a table's 27 bytes.
+fn put_table(out: &mut [u8; BYTES], t: Table)
+    ensures { out.new ≡ table_bytes t }
 {
     out[0] = t.policy;
     out[1] = t.m;
@@ -67,11 +67,11 @@ fn read_table(sheet: &[u8], table: &mut [u8]) -> Result<usize, Refusal>
     ensures space { table.new ≡ read_space sheet.now table.old }
 {
     let t = tasks::read_sheet(sheet)?;
-    if table.len() < 27 {
+    let Some(front) = table.first_chunk_mut::<BYTES>() else {
         return Err(Refusal::ShortOutput);
-    }
-    put_table(table, t);
-    Ok(27)
+    };
+    put_table(front, t);
+    Ok(BYTES)
 }
 
 // The table of a sheet: kind × 2^48 + N, kind 1 with the 27 bytes written, kind 0 with the refusal's number.
@@ -88,13 +88,13 @@ fn write_table(table: &[u8], out: &mut [u8]) -> Result<usize, Refusal>
     ensures few { IfOk result (λ n. n ≤ 52) }
     ensures space { out.new ≡ write_space table.now out.old }
 {
-    if table.len() < 27 {
+    let Some((bytes, later)) = table.split_first_chunk::<BYTES>() else {
         return Err(Refusal::Incomplete);
-    }
-    if 27 < table.len() {
+    };
+    if !later.is_empty() {
         return Err(Refusal::LaterBytes);
     }
-    tasks::write_sheet(table_from(table), out)
+    tasks::write_sheet(table_from(bytes), out)
 }
 
 // The sheet of a table of 27 bytes: kind 1 with the sheet's length, kind 0 with the refusal's number.

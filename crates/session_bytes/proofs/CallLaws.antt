@@ -1,8 +1,9 @@
 -- What a call on a session in bytes answers, and the space after it. Assumes nothing.
 use Prim.Native.Nat.{ℕ, ◌≤◌, ◌<◌}
-use mathlib.Core.Path.{◌≡◌, refl, sym, ap, ◌∙◌}
-use mathlib.Core.List.{List}
-use lib.ListN.{length}
+use mathlib.Core.Path.{◌≡◌, refl, sym, ap, ap₂, ◌∙◌}
+use mathlib.Core.List.{List, ◌++◌}
+use lib.ListN.{length, take, drop, take-append-drop}
+use lib.Seq.{length-take-le}
 use borrow.Author.Tests.{lt-ltb, le-ltb}
 use Rattle.std.specs.Prelude.{Result, Ok, Err}
 use Rattle.tasks.specs.Refusals.{refusal_number, refusal_at}
@@ -17,6 +18,7 @@ use Rattle.session.specs.declared.calls.Call.{Call}
 use Rattle.session.specs.declared.calls.Called.{Called}
 use Rattle.session_bytes.specs.Space.{session_from, space_by, space_after, sheet_call, sheet_space}
 use Rattle.tasks.proofs.Refusals.{at_number, refusal_some}
+use Rattle.session_bytes.proofs.SpaceLaws.{session_front, after_front}
 
 -- with a table, by the call's answer
 pub table_told :
@@ -53,3 +55,19 @@ module _ (sheet b : List ℕ) (c : Call) where
         × (sheet_space sheet b c ≡ space_after (outcome t (session_from b) c) b)
     unfolding sheet_call sheet_space
     sheet_calls h = let s = le-ltb (length b) 145 h in (rw (e, s), rw (e, s))
+
+    -- .. from the first 145 bytes, beside which the later ones stay
+    pub sheet_front :
+        145 ≤ length b → {r : Result Step Refusal} {a a' : List ℕ} → a ≡ take 145 b
+        → (r ≡ (outcome t (session_from a) c).answer) × (a' ≡ space_after (outcome t (session_from a) c) a) → Told r (a' ++ drop 145 b)
+    sheet_front h {r} {a} {a'} f told =
+        let d = drop 145 b in
+        let n : length a ≡ 145 = ap length f ∙ length-take-le 145 b h in
+        let whole : a ++ d ≡ b = ap (λ l. l ++ d) f ∙ take-append-drop 145 b in
+        let same : session_from a ≡ session_from b = sym (session_front a d n) ∙ ap session_from whole in
+        let calls = sheet_calls h in (
+          told.0 ∙ ap (λ x. (outcome t x c).answer) same ∙ sym calls.0,
+          ap (λ l. l ++ d) told.1 ∙ sym (after_front (outcome t (session_from a) c) a d n)
+              ∙ ap₂ (λ x l. space_after (outcome t x c) l) same whole
+              ∙ sym calls.1,
+        )

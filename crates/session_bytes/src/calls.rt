@@ -1,16 +1,15 @@
 // A call on a session in bytes.
-ghost use Rattle.std.specs.Prelude.{◌≡◌, ◌≤◌, length};
+ghost use Rattle.std.specs.Prelude.{◌≡◌};
 ghost use Rattle.session.specs.Session.{outcome};
 ghost use Rattle.session_bytes.specs.Space.{session_from, space_after, sheet_call, sheet_space};
 
-use crate::read::read_session;
+use crate::read::{BYTES, read_session};
 use crate::write::write_session;
 use session::Call;
 use tasks::{Refusal, Step, Table};
 
 // A call with a table. Only one that is done writes.
-fn call_table(t: Table, space: &mut [u8], call: Call) -> Result<Step, Refusal>
-    requires { 145 ≤ length space.old }
+fn call_table(t: Table, space: &mut [u8; BYTES], call: Call) -> Result<Step, Refusal>
     ensures { (result ≡ (outcome t (session_from space.old) call).answer) × (space.new ≡ space_after (outcome t (session_from space.old) call) space.old) }
 {
     let called = read_session(space).call(t, call);
@@ -26,8 +25,8 @@ pub fn call_sheet(sheet: &[u8], space: &mut [u8], call: Call) -> Result<Step, Re
     ensures { (result ≡ sheet_call sheet.now space.old call) × (space.new ≡ sheet_space sheet.now space.old call) }
 {
     let table = tasks::read_sheet(sheet)?;
-    if space.len() < 145 {
+    let Some(space) = space.first_chunk_mut::<BYTES>() else {
         return Err(Refusal::ShortOutput);
-    }
+    };
     call_table(table, space, call)
 }

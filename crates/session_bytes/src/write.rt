@@ -1,9 +1,10 @@
 // A session written to its bytes. Those of a mark that is not set stay.
-ghost use Rattle.std.specs.Prelude.{◌≡◌, ◌<◌, ◌≤◌, length};
+ghost use Rattle.std.specs.Prelude.{◌≡◌, ◌<◌};
 ghost use Rattle.std.proofs.lemmas.List.Edits.{sets};
 ghost use Rattle.states.specs.Bytes.{state_bytes};
 ghost use Rattle.session_bytes.specs.Space.{place, flags, mark_written, marks_written, session_written};
 
+use crate::read::BYTES;
 use session::Session;
 use tasks::State;
 
@@ -21,8 +22,8 @@ fn flags(x: Session) -> u8
 }
 
 // Writes state j of the nine: 0 the present one, and 1 to 8 those of the marks.
-fn put_state(space: &mut [u8], j: usize, state: State)
-    requires { (j < 9) × (145 ≤ length space.old) }
+fn put_state(space: &mut [u8; BYTES], j: usize, state: State)
+    requires { j < 9 }
     ensures { space.new ≡ sets space.old (place j) (state_bytes state) }
 {
     // There is room for its sixteen bytes, so it is not refused.
@@ -30,8 +31,8 @@ fn put_state(space: &mut [u8], j: usize, state: State)
 }
 
 // Writes the ith mark, counted from 0, where it is set.
-fn put_mark(space: &mut [u8], x: Session, i: usize)
-    requires { (i < 8) × (145 ≤ length space.old) }
+fn put_mark(space: &mut [u8; BYTES], x: Session, i: usize)
+    requires { i < 8 }
     ensures { space.new ≡ mark_written x i space.old }
 {
     if let Some(state) = x.marks[i] {
@@ -40,8 +41,7 @@ fn put_mark(space: &mut [u8], x: Session, i: usize)
 }
 
 // Writes the marks that are set.
-fn put_marks(space: &mut [u8], x: Session)
-    requires { 145 ≤ length space.old }
+fn put_marks(space: &mut [u8; BYTES], x: Session)
     ensures { space.new ≡ marks_written x 8 space.old }
 {
     for i in 0..8 {
@@ -50,8 +50,7 @@ fn put_marks(space: &mut [u8], x: Session)
 }
 
 // Writes the flags, the present state and the marks.
-pub(crate) fn write_session(space: &mut [u8], x: Session)
-    requires { 145 ≤ length space.old }
+pub(crate) fn write_session(space: &mut [u8; BYTES], x: Session)
     ensures { space.new ≡ session_written x space.old }
 {
     space[0] = flags(x);
