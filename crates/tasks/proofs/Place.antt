@@ -141,9 +141,9 @@ module _ (t : Table) (s : State) where
   unfolding earlier_in earlier
   earlier_in_lem i h = count_same (λ j. before_in (eight (key t s)) (eight (age t s)) j i) (λ j. before t s j i) 8 (λ j k. before_in_lem j i k h)
 
-  pub earlier_counted : eight (earlier_in (eight (key t s)) (eight (age t s)) 8) ≡ eight (earlier t s)
+  pub earlier_lists : eight (earlier_in (eight (key t s)) (eight (age t s)) 8) ≡ eight (earlier t s)
   unfolding earlier
-  earlier_counted = eight_same (earlier_in (eight (key t s)) (eight (age t s)) 8) (earlier t s) earlier_in_lem
+  earlier_lists = eight_same (earlier_in (eight (key t s)) (eight (age t s)) 8) (earlier t s) earlier_in_lem
 
   -- how many go before task i, read off a list, and that they are at most 8
   pub earlier_listed : {counts : List ℕ} → counts ≡ eight (earlier t s) → (i : ℕ) → i < 8 → (get_or counts i 0 ≡ earlier t s i) × (get_or counts i 0 ≤ 8)
@@ -151,6 +151,12 @@ module _ (t : Table) (s : State) where
   earlier_listed e i h =
       let is = ap (λ l. get_or l i 0) e ∙ eight_at 0 (earlier t s) i h in
       (is, omega (arith, is, count_le (λ j. before t s j i) 8))
+
+  -- .. and so off the list that is counted by keys and ages
+  pub earlier_counted :
+      {counts : List ℕ} → counts ≡ eight (earlier_in (eight (key t s)) (eight (age t s)) 8) → (i : ℕ) → i < 8
+      → (get_or counts i 0 ≡ earlier t s i) × (get_or counts i 0 ≤ 8)
+  earlier_counted e = earlier_listed (e ∙ earlier_lists)
 
   earlier_less : (j i : ℕ) → j < 8 → before t s j i ≡ true → earlier t s j < earlier t s i
   unfolding earlier
