@@ -1,5 +1,5 @@
 -- What `play_on` answers, raised. Assumes nothing.
-use mathlib.Core.Path.{◌≡◌, sym, ap, ◌∙◌}
+use mathlib.Core.Path.{◌≡◌, ap, ◌∙◌}
 use Rattle.tasks.specs.Replay.{replay_tick, outcome_tick}
 use Rattle.tasks.specs.declared.play.ReplayAnswer.TheVariants.{Played, Refused}
 use Rattle.joined.specs.Raised.{raised_answer}

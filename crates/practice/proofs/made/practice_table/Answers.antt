@@ -3,7 +3,6 @@ use mathlib.Core.Path.{◌≡◌, sym, ap, ◌∙◌}
 use Rattle.std.proofs.Common.{rules}
 use Rattle.std.specs.Prelude.{Ok, Err}
 use Rattle.tasks.specs.Table.{table_fault}
-use Rattle.tasks.specs.Refusals.{unless_refused}
 use Rattle.tasks.proofs.Refusals.{accepted_unless}
 use Rattle.practice.proofs.Theorems.{practice_refused, practice_made}
 use Rattle.practice.proofs.made.practice_table.Goals as goal
