@@ -14,7 +14,7 @@ ghost use Rattle.closed.specs.Keeping.{class_of, landing, Due, RowOf, Between, E
 use crate::cells::put;
 use crate::file::gap_at;
 use crate::pending::{all_held, put_key};
-use states::{Key, follow, key_in, key_of, mix, words_in};
+use states::{Key, key_in, key_of, masks_of, mix, words_in};
 use tasks::{Prepared, Table, Ticker};
 
 // The task by which the pairs are split, the most that it is from its next release after a tick, and its bit in a mask.
@@ -147,15 +147,11 @@ fn row_pending(
     if !(kept | released) {
         return count;
     }
-    let free = ticker.free(v);
     let state = ticker.prepare(v);
     let mut c = count;
-    let mut m: u16 = 0;
-    while m < 256 {
-        let mask = m as u8;
+    for mask in masks_of(ticker.free(v)) {
         let due = is_due(split.bit, kept, released, mask);
         c = put_after(ticker, pending, c, pass, state, due, mask);
-        m = follow(free, mask);
     }
     c
 }

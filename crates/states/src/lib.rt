@@ -10,5 +10,5 @@ mod words;
 
 pub use column::{four_at, key_in, words_in};
 pub use keys::{Key, key_of, mix, same_keys};
-pub use masks::{Masks, follow, masks_of};
+pub use masks::{Masks, masks_of};
 pub use miss::full_misses;
