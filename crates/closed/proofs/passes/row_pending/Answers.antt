@@ -26,24 +26,24 @@ due_is low high top released is e f = rw (e, f, is)
 pub words_in-v-requires : goal.words_in-v-requires
 words_in-v-requires c =
     let g = c.requires in
-    omega (arith, g.0.whole, g.4)
+    omega (arith, g.0.whole, g.3)
 
 pub gap_at-gap-requires : goal.gap_at-gap-requires
 gap_at-gap-requires c =
     let g = c.requires in
-    (omega (arith, g.0.whole, g.4), g.3)
+    (omega (arith, g.0.whole, g.3), g.2)
 
 pub returns-then-not-kept-released : goal.returns-then-not-kept-released
 returns-then-not-kept-released c = (
   omega arith,
-  row_skipped c.args.t c.args.file.now c.args.split c.args.pass c.args.i
+  row_skipped c.args.ticking.table c.args.file.now c.args.split c.args.pass c.args.i
       (due_is c.args.pass.low c.args.pass.high c.args.split.top false c.gap_at-gap.ensures c.between-kept.ensures c.landing.ensures) (due_is c.args.pass.low c.args.pass.high c.args.split.top true c.gap_at-gap.ensures c.between-released.ensures c.landing-2.ensures) (c.if-not-kept-released.true) c.args.n c.args.pending.now c.args.count,
 )
 
 pub loop-mask-init : goal.loop-mask-init
 loop-mask-init c =
     let start = c.masks_of-mask-items.ensures.start in
-    let free = frees _ _ c.requires.1 c.free.ensures ∙ ap (free_mask _) c.words_in-v.ensures in
+    let free = frees _ _ c.args.ticking.made c.free.ensures ∙ ap (free_mask _) c.words_in-v.ensures in
     rw c.into_iter-mask-iterator.ensures.into_iter_gives
     (start.0, tt, omega arith, refl, start.2 ∙ free, rw start.1 (row_start start.0.small _ _))
 
@@ -52,7 +52,7 @@ put_after-c-requires c =
     let p = c.requires in
     let x = c.loop-mask.invariant in
     let step = (c.in-Some.ensures {u = tt}).steps in
-    (omega (arith, p.6, x.2, x.3, step.here, step.small), p.2)
+    (omega (arith, p.5, x.2, x.3, step.here, step.small), p.1)
 
 pub loop-mask-preserved : goal.loop-mask-preserved
 loop-mask-preserved c =
@@ -81,11 +81,11 @@ returns c =
     let end = c.in-None.ensures {u = tt} in
     let here : state_of c.words_in-v.result ≡ state_in a.file.now a.i = c.words_in-v.ensures in
     let words : WordList c.words_in-v.result = record { word = λ i h. search rules } in
-    let row : Row a.t a.ticker a.file.now a.split a.pass a.i c.between-kept.result c.between-released.result c.prepare-state.result c.loop-mask.mask-iterator.free =
+    let row : Row a.ticking.table a.ticking.ticker a.file.now a.split a.pass a.i c.between-kept.result c.between-released.result c.prepare-state.result c.loop-mask.mask-iterator.free =
     record {
       keeps = due_is a.pass.low a.pass.high a.split.top false c.gap_at-gap.ensures c.between-kept.ensures c.landing.ensures;
       releases = due_is a.pass.low a.pass.high a.split.top true c.gap_at-gap.ensures c.between-released.ensures c.landing-2.ensures;
-      ticks = λ q. ticks a.t _ g.1 c.prepare-state.ensures g.0.valid (ap (improper a.t) here ∙ g.5) words q ∙ ap (λ u. after a.t u q) here;
+      ticks = λ q. ticks a.ticking.table _ a.ticking.made c.prepare-state.ensures g.0.valid (ap (improper a.ticking.table) here ∙ g.4) words q ∙ ap (λ u. after a.ticking.table u q) here;
       frees = x.4;
     } in
-    (omega (arith, x.2, end.steps), row_end row g.0.is g.4 x.5 (omega (arith, end.steps)))
+    (omega (arith, x.2, end.steps), row_end row g.0.is g.3 x.5 (omega (arith, end.steps)))
