@@ -186,5 +186,5 @@ full_sound t s false valid proper calm miss = λ x.
 
 -- other cells, as many
 pub ready_cells :
-    {t : Table} {ticker : Ticker} {file cells cells' : List ℕ} {n : ℕ} → Ready t ticker file cells n → length cells' ≡ length cells → Ready t ticker file cells' n
-ready_cells x e = record { given = x.given; made = x.made; sound = x.sound; some = (let s = x.some in omega arith) }
+    {t : Table} {file cells cells' : List ℕ} {n : ℕ} → Ready t file cells n → length cells' ≡ length cells → Ready t file cells' n
+ready_cells x e = record { given = x.given; sound = x.sound; some = (let s = x.some in omega arith) }

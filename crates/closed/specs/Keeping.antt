@@ -7,10 +7,8 @@ use Rattle.lists.specs.Lists.{pick, count}
 use Rattle.tasks.specs.Table.{table_fault}
 use Rattle.tasks.specs.State.{not_preempted, started, improper}
 use Rattle.tasks.specs.Tick.{illegal, after}
-use Rattle.tasks.specs.Ticker.{ticker_of}
 use Rattle.tasks.specs.declared.state.State.{State}
 use Rattle.tasks.specs.declared.table.Table.{Table}
-use Rattle.tasks.specs.declared.ticker.Ticker.{Ticker}
 use Rattle.levels.specs.Verdict.{Holds}
 use Rattle.levels.specs.Levels.{Calm}
 use Rattle.states.specs.Keys.{key_of, key_in, mixed}
@@ -111,10 +109,9 @@ pub record Given (t : Table) (file : List ℕ) (n : ℕ) : Type 0 where
   pub is : n ≡ states_in file
   pub whole : 16 * n ≤ length file
 
--- .. with sound states, the table's ticker and some cells
-pub record Ready (t : Table) (ticker : Ticker) (file cells : List ℕ) (n : ℕ) : Type 0 where
+-- .. with sound states and some cells
+pub record Ready (t : Table) (file cells : List ℕ) (n : ℕ) : Type 0 where
   pub given : Given t file n
-  pub made : ticker ≡ ticker_of t
   pub sound : Sound t file
   pub some : 256 < length cells
 

@@ -1,22 +1,21 @@
 // The public calls: whether a file of states is closed, for a table and for a sheet.
 ghost use Rattle.std.specs.Prelude.{◌≡◌, ◌<◌, ◌≤◌, length};
 ghost use Rattle.tasks.specs.Table.{table_fault};
-ghost use Rattle.tasks.specs.Ticker.{ticker_of};
 ghost use Rattle.closed.specs.Closed.{file_refusal, closed_answer, Judged, TableJudged, SheetJudged};
 ghost use Rattle.closed.specs.Keeping.{Given, SoundIs, ClosedIs};
 
 use crate::file::scan;
 use crate::passes::{all_inside, split_of};
 use crate::sound::is_sound;
-use states::{key_of, words_in};
-use tasks::{Refusal, Table, Ticker};
+use states::{Ticking, key_of, words_in};
+use tasks::{Refusal, Table};
 
 // Whether every state of the file is proper, and no mask misses from any.
-fn all_sound(t: Table, ticker: Ticker, file: &[u8], n: usize) -> bool
-    requires { Given t file.now n × (ticker ≡ ticker_of t) }
-    ensures { SoundIs t file.now result }
+fn all_sound(ticking: Ticking, file: &[u8], n: usize) -> bool
+    requires { Given ticking.table file.now n }
+    ensures { SoundIs ticking.table file.now result }
 {
-    (0..n).all(|i| is_sound(t, ticker, words_in(file, i)))
+    (0..n).all(|i| is_sound(ticking, words_in(file, i)))
 }
 
 // Whether the file is closed, with the cells given.
@@ -24,15 +23,15 @@ fn closed_with(t: Table, file: &[u8], n: usize, cells: &mut [u32]) -> bool
     requires { Given t file.now n × (256 < length cells.old) }
     ensures { ClosedIs t file.now result }
 {
-    let ticker = t.ticker();
-    if !all_sound(t, ticker, file, n) {
+    let ticking = Ticking::of(t);
+    if !all_sound(ticking, file, n) {
         return false;
     }
     let start = key_of([0u16; 8]);
     if !scan(file, n, start) {
         return false;
     }
-    all_inside(t, ticker, file, cells, n, split_of(t))
+    all_inside(ticking, file, cells, n, split_of(t))
 }
 
 // Whether the file is closed, with so many cells.

@@ -6,7 +6,7 @@ ghost use Rattle.std.specs.Prelude.{◌≡◌, ◌+◌, ◌-◌, ◌*◌, ◌<�
 ghost use Rattle.std.specs.Int.Bits.{bit_and};
 ghost use Rattle.lists.specs.Lists.{pick};
 ghost use Rattle.tasks.specs.State.{improper};
-ghost use Rattle.tasks.specs.Ticker.{ticked_by, ticker_of};
+ghost use Rattle.tasks.specs.Ticker.{ticked_by};
 ghost use Rattle.tasks.specs.Words.{state_of};
 ghost use Rattle.states.specs.Bytes.{state_in};
 ghost use Rattle.closed.specs.Keeping.{class_of, landing, Due, RowOf, Between, Every, InsideIs, Given, Ready, AfterWaits, RowWaits};
@@ -14,7 +14,7 @@ ghost use Rattle.closed.specs.Keeping.{class_of, landing, Due, RowOf, Between, E
 use crate::cells::put;
 use crate::file::gap_at;
 use crate::pending::{all_held, put_key};
-use states::{Key, follow, key_in, key_of, mix, words_in};
+use states::{Key, Ticking, key_in, key_of, masks_of, mix, words_in};
 use tasks::{Prepared, Table, Ticker};
 
 // The task by which the pairs are split, the most that it is from its next release after a tick, and its bit in a mask.
@@ -127,8 +127,7 @@ fn put_after(
 
 // Puts the keys of the states after the masks of state i that are due in the pass behind those that wait. How many wait then.
 fn row_pending(
-    t: Table,
-    ticker: Ticker,
+    ticking: Ticking,
     file: &[u8],
     pending: &mut [u32],
     count: usize,
@@ -137,9 +136,10 @@ fn row_pending(
     pass: Pass,
     i: usize,
 ) -> usize
-    requires { Given t file.now n × (ticker ≡ ticker_of t) × (0 < pass.classes) × (split.task < 8) × (i < n) × (improper t (state_in file.now i) ≡ false) × (4 * count + 1024 ≤ length pending.old) }
-    ensures { (result ≤ count + 256) × RowWaits t file.now n (RowOf t file.now split pass i) pending.old count pending.new result }
+    requires { Given ticking.table file.now n × (0 < pass.classes) × (split.task < 8) × (i < n) × (improper ticking.table (state_in file.now i) ≡ false) × (4 * count + 1024 ≤ length pending.old) }
+    ensures { (result ≤ count + 256) × RowWaits ticking.table file.now n (RowOf ticking.table file.now split pass i) pending.old count pending.new result }
 {
+    let ticker = ticking.ticker;
     let v = words_in(file, i);
     let gap = gap_at(file, i, split.task);
     let kept = between(pass.low, pass.high, landing(split.top, gap, false));
@@ -147,15 +147,11 @@ fn row_pending(
     if !(kept | released) {
         return count;
     }
-    let free = ticker.free(v);
     let state = ticker.prepare(v);
     let mut c = count;
-    let mut m: u16 = 0;
-    while m < 256 {
-        let mask = m as u8;
+    for mask in masks_of(ticker.free(v)) {
         let due = is_due(split.bit, kept, released, mask);
         c = put_after(ticker, pending, c, pass, state, due, mask);
-        m = follow(free, mask);
     }
     c
 }
@@ -163,21 +159,20 @@ fn row_pending(
 // Whether the states after the masks of every state that are due in the pass are in the file. Their keys wait until there are many: looked
 // up one right after the other, they wait for memory together.
 fn rows_inside(
-    t: Table,
-    ticker: Ticker,
+    ticking: Ticking,
     file: &[u8],
     cells: &[u32],
     n: usize,
     split: Split,
     pass: Pass,
 ) -> bool
-    requires { Ready t ticker file.now cells.now n × (0 < pass.classes) × (split.task < 8) }
-    ensures { InsideIs t file.now (Due t file.now split pass) result }
+    requires { Ready ticking.table file.now cells.now n × (0 < pass.classes) × (split.task < 8) }
+    ensures { InsideIs ticking.table file.now (Due ticking.table file.now split pass) result }
 {
     let mut pending = [0u32; 1280];
     let mut count: usize = 0;
     for row in 0..n {
-        count = row_pending(t, ticker, file, &mut pending, count, n, split, pass, row);
+        count = row_pending(ticking, file, &mut pending, count, n, split, pass, row);
         if (64 <= count) | (row + 1 == n) {
             if !all_held(file, cells, n, &pending, count) {
                 return false;
@@ -226,8 +221,7 @@ fn count_between(file: &[u8], n: usize, split: Split, low: usize, high: usize) -
 
 // The passes of the states so far from the task's next release, one a class.
 fn band_inside(
-    t: Table,
-    ticker: Ticker,
+    ticking: Ticking,
     file: &[u8],
     cells: &mut [u32],
     n: usize,
@@ -235,8 +229,8 @@ fn band_inside(
     low: usize,
     high: usize,
 ) -> bool
-    requires { Ready t ticker file.now cells.old n × (split.task < 8) }
-    ensures { (length cells.new ≡ length cells.old) × InsideIs t file.now (Between file.now split low high) result }
+    requires { Ready ticking.table file.now cells.old n × (split.task < 8) }
+    ensures { (length cells.new ≡ length cells.old) × InsideIs ticking.table file.now (Between file.now split low high) result }
 {
     let classes = count_between(file, n, split, low, high) / 229376 + 1;
     for class in 0..classes {
@@ -247,7 +241,7 @@ fn band_inside(
             class,
         };
         index_pass(file, cells, n, split, pass);
-        if !rows_inside(t, ticker, file, cells, n, split, pass) {
+        if !rows_inside(ticking, file, cells, n, split, pass) {
             return false;
         }
     }
@@ -268,21 +262,20 @@ fn width(top: usize, n: usize) -> usize
 
 // Whether every legal mask of every state leads to a state of the file.
 pub(crate) fn all_inside(
-    t: Table,
-    ticker: Ticker,
+    ticking: Ticking,
     file: &[u8],
     cells: &mut [u32],
     n: usize,
     split: Split,
 ) -> bool
-    requires { Ready t ticker file.now cells.old n × (split.task < 8) × (split.top < 256) }
-    ensures { InsideIs t file.now Every result }
+    requires { Ready ticking.table file.now cells.old n × (split.task < 8) × (split.top < 256) }
+    ensures { InsideIs ticking.table file.now Every result }
 {
     let step = width(split.top, n);
     let mut low: usize = 0;
     while low <= split.top {
         let high = low + step;
-        if !band_inside(t, ticker, file, cells, n, split, low, high) {
+        if !band_inside(ticking, file, cells, n, split, low, high) {
             return false;
         }
         low = high;

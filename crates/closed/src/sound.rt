@@ -3,12 +3,11 @@ ghost use Rattle.std.specs.Prelude.{◌≡◌};
 ghost use Rattle.lists.specs.Lists.{count};
 ghost use Rattle.tasks.specs.State.{started};
 ghost use Rattle.tasks.specs.Table.{table_fault};
-ghost use Rattle.tasks.specs.Ticker.{ticker_of};
 ghost use Rattle.tasks.specs.Words.{state_of};
 ghost use Rattle.closed.specs.Keeping.{StateIs, work_above, gap_above, exceeds};
 
-use states::full_misses;
-use tasks::{Table, Ticker, gap_in, misses, tight, work_in};
+use states::{Ticking, full_misses};
+use tasks::{Table, gap_in, misses, tight, work_in};
 
 // How many tasks of the state in the words have c above C. These are counts, where tests would do: the compiler makes vectors
 // of them also where a branch follows.
@@ -52,18 +51,19 @@ fn exceeds(t: Table, v: [u16; 8]) -> bool
 }
 
 // Whether the state in the words is proper and no mask misses from it. A late job is tight, so where none is tight none is late.
-pub(crate) fn is_sound(t: Table, ticker: Ticker, v: [u16; 8]) -> bool
-    requires { (table_fault t ≡ 0) × (ticker ≡ ticker_of t) }
-    ensures { StateIs t (state_of v) result }
+pub(crate) fn is_sound(ticking: Ticking, v: [u16; 8]) -> bool
+    requires { table_fault ticking.table ≡ 0 }
+    ensures { StateIs ticking.table (state_of v) result }
 {
-    if exceeds(t, v) {
+    let Ticking { table, ticker } = ticking;
+    if exceeds(table, v) {
         return false;
     }
-    if !tight(t, v) {
+    if !tight(table, v) {
         return true;
     }
-    if misses(t, v) {
+    if misses(table, v) {
         return false;
     }
-    !full_misses(t, ticker, v)
+    !full_misses(table, ticker, v)
 }

@@ -3,8 +3,7 @@ ghost use Rattle.std.specs.Prelude.{◌≡◌, ◌≤◌};
 ghost use Rattle.states.specs.Miss.{miss_by};
 ghost use Rattle.search.specs.Keeping.{Level, HuntIs};
 
-use crate::ticked::Ticking;
-use states::{full_misses, masks_of, words_in};
+use states::{Ticking, full_misses, masks_of, words_in};
 use tasks::{Table, Ticker, misses, tight};
 
 // Whether some mask misses from the state in the words, where it is proper.

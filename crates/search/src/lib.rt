@@ -7,7 +7,6 @@ mod outcome;
 mod run;
 mod search;
 mod store;
-mod ticked;
 
 pub use run::Verdict;
 pub use search::{search_sheet, search_table};

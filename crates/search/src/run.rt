@@ -5,7 +5,7 @@ ghost use Rattle.search.specs.Keeping.{Fresh, RanBy};
 use crate::hunt::hunt;
 use crate::index::push;
 use crate::store::store_level;
-use crate::ticked::Ticking;
+use states::Ticking;
 
 // Safe with the count; Unsafe with L and the count; or No room with the count.
 #[derive(Clone, Copy, Debug, PartialEq, Eq)]

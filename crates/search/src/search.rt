@@ -7,8 +7,8 @@ ghost use Rattle.search.specs.Keeping.{written_by, Fresh, RanBy, Lent, Finishing
 
 use crate::outcome::report;
 use crate::run::{End, Verdict, run_levels};
-use crate::ticked::Ticking;
 use slots::settle;
+use states::Ticking;
 use tasks::{Refusal, Table};
 
 // How many slots a work space of this length has, at most 1,000,000.
@@ -34,11 +34,7 @@ fn search_levels(t: Table, work: &mut [u8], heads: &mut [u32], ends: &mut [u32],
     requires { Fresh t k ends.old work.old heads.old }
     ensures { RanBy t k ends.new work.old work.new result }
 {
-    let ticking = Ticking {
-        table: t,
-        ticker: t.ticker(),
-    };
-    run_levels(ticking, work, heads, ends, k)
+    run_levels(Ticking::of(t), work, heads, ends, k)
 }
 
 // Writes the parents in the place of the words, and reports. It stands apart from the levels: with the last pass in line, their loops took

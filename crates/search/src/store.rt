@@ -8,9 +8,8 @@ ghost use Rattle.search.specs.Indexed.{Indexed};
 ghost use Rattle.search.specs.Keeping.{Level, Attempted, RowReady, RowIs, BlockReady, BlockIs, LevelIs};
 
 use crate::index::{holds, push};
-use crate::ticked::Ticking;
 use slots::{block_upto, end_slot};
-use states::{masks_of, words_in};
+use states::{Ticking, masks_of, words_in};
 use tasks::{Prepared, Ticker};
 
 // Stores what the state of slot i leads to under a mask, where it is new; n slots are filled before.

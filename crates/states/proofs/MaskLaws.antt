@@ -130,9 +130,6 @@ module _ (Q : ℕ → Type 0) {free : ℕ} (small : free < 256) where
       go q k (inl l) = x.each q l k
       go q k (inr z) = rw z e
 
-  pub walked_falls : {m : ℕ} → Walked Q free m → m < 256 → m < follows free m
-  walked_falls {m} x h = let f = next_submask free m small h (x.is h) in omega (arith, f.up)
-
 -- ---- the walk as an iterator
 
 module _ {walk walk' : Masks} {m : ℕ} (x : AtMask walk) (y : Stepped walk walk' m) where

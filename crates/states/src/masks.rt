@@ -17,14 +17,6 @@ fn next_mask(free: u8, m: u8) -> u8
     m.wrapping_sub(free) & free
 }
 
-// The submask of free after m, and 256 after the last.
-pub fn follow(free: u8, m: u8) -> u16
-    ensures { result ≡ follows free m }
-{
-    let next = next_mask(free, m);
-    if next == 0 { 256 } else { next as u16 }
-}
-
 // The submask of free after m.
 fn mask_after(free: u8, m: u8) -> Option<u8>
     ensures { place result ≡ follows free m }

@@ -9,7 +9,7 @@ use Rattle.closed.proofs.check.all_sound.Goals as goal
 pub returns : goal.returns
 returns c =
     let file = c.args.file.now in
-    let t = c.args.t in
-    sound_is t file c.requires.0.is c.all.result
+    let t = c.args.ticking.table in
+    sound_is t file c.requires.is c.all.result
     (all_below c.args.n {Yes = λ i. SoundState t (state_in file i)} {No = λ i. SoundState t (state_in file i) → ⊥} c.all.result c.all.ensures.ran
     (λ x q k. (search rules, search rules)) (λ x q k. search rules))

@@ -10,12 +10,12 @@ use Rattle.closed.proofs.check.closed_with.Goals as goal
 
 pub all_sound-requires : goal.all_sound-requires
 all_sound-requires c =
-    (c.requires.0, c.ticker-ticker.ensures)
+    rw c.of-ticking.ensures c.requires.0
 
 pub returns-then-not-all_sound : goal.returns-then-not-all_sound
 returns-then-not-all_sound c =
     let none : c.all_sound.result ≡ false = c.if-not-all_sound.true in
-    rw none at c.all_sound.ensures
+    rw (c.of-ticking.ensures, none) at c.all_sound.ensures
 
 pub scan-requires : goal.scan-requires
 scan-requires c =
@@ -31,7 +31,8 @@ returns-then-not-scan c =
 pub all_inside-requires : goal.all_inside-requires
 all_inside-requires c =
     let yes : c.all_sound.result ≡ true = c.if-not-all_sound.false in
-    (record { given = c.requires.0; made = c.ticker-ticker.ensures; sound = rw yes at c.all_sound.ensures; some = c.requires.1 }, c.split_of.ensures.0, c.split_of.ensures.1)
+    let sound = rw (c.of-ticking.ensures, yes) at c.all_sound.ensures in
+    (rw c.of-ticking.ensures (record { given = c.requires.0; sound = sound; some = c.requires.1 }), c.split_of.ensures.0, c.split_of.ensures.1)
 
 pub returns : goal.returns
 unfolding state_of
@@ -39,6 +40,6 @@ returns c =
     let sound : c.all_sound.result ≡ true = c.if-not-all_sound.false in
     let found : c.scan.result ≡ true = c.if-not-scan.false in
     let h = rw found at c.scan.ensures in
-    closed_is c.args.t c.args.file.now c.all_inside.result c.requires.0.valid (rw sound at c.all_sound.ensures)
+    closed_is c.args.t c.args.file.now c.all_inside.result c.requires.0.valid (rw (c.of-ticking.ensures, sound) at c.all_sound.ensures)
     (rw (← c.requires.0.is) (held c.args.file.now start c.type_inv.file start_bytes (rw c.key_of-start.ensures at h)))
-    c.all_inside.ensures
+    (rw c.of-ticking.ensures at c.all_inside.ensures)

@@ -39,7 +39,7 @@ pub loop-low-preserved : goal.loop-low-preserved
 loop-low-preserved c =
     let a = c.args in
     let yes : c.band_inside.result ≡ true = c.if-not-band_inside.false in
-    (c.band_inside.ensures.0 ∙ c.loop-low.invariant.0, bands_next a.t a.file.now a.split c.loop-low.invariant.1 (rw yes at c.band_inside.ensures.1))
+    (c.band_inside.ensures.0 ∙ c.loop-low.invariant.0, bands_next a.ticking.table a.file.now a.split c.loop-low.invariant.1 (rw yes at c.band_inside.ensures.1))
 
 pub shape_of-cells : goal.shape_of-cells
 shape_of-cells c =
@@ -48,4 +48,4 @@ shape_of-cells c =
 pub returns : goal.returns
 returns c =
     let a = c.args in
-    bands_end a.t a.file.now a.split c.loop-low.invariant.1 (omega (arith, c.loop-low-test.false))
+    bands_end a.ticking.table a.file.now a.split c.loop-low.invariant.1 (omega (arith, c.loop-low-test.false))

@@ -7,7 +7,7 @@ use Rattle.closed.proofs.InsideLaws.{BandsTo}
 use Rattle.closed.proofs.passes.all_inside.Given as goal
 
 abbrev pub invariant-loop-low : goal.invariant-loop-low
-invariant-loop-low l = (length l.cells ≡ length l.initial.cells) × Inside l.t l.file (BandsTo l.t l.file l.split l.low)
+invariant-loop-low l = (length l.cells ≡ length l.initial.cells) × Inside l.ticking.table l.file (BandsTo l.ticking.table l.file l.split l.low)
 
 abbrev pub decreases-loop-low : goal.decreases-loop-low
 decreases-loop-low l = l.split.top + 1 - l.low

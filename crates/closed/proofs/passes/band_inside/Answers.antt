@@ -41,7 +41,7 @@ pub loop-class-preserved : goal.loop-class-preserved
 loop-class-preserved c =
     let a = c.args in
     let yes : c.rows_inside.result ≡ true = c.if-not-rows_inside.false in
-    (c.index_pass.ensures ∙ c.loop-class.invariant.0, classes_next a.t a.file.now a.split a.low a.high _ c.loop-class.invariant.1 (rw yes at c.rows_inside.ensures))
+    (c.index_pass.ensures ∙ c.loop-class.invariant.0, classes_next a.ticking.table a.file.now a.split a.low a.high _ c.loop-class.invariant.1 (rw yes at c.rows_inside.ensures))
 
 pub shape_of-cells : goal.shape_of-cells
 shape_of-cells c =
@@ -50,4 +50,4 @@ shape_of-cells c =
 pub returns : goal.returns
 returns c =
     let a = c.args in
-    (c.loop-class.invariant.0, classes_end a.t a.file.now a.split a.low a.high _ c.loop-class.invariant.1 (omega arith) (omega arith))
+    (c.loop-class.invariant.0, classes_end a.ticking.table a.file.now a.split a.low a.high _ c.loop-class.invariant.1 (omega arith) (omega arith))

@@ -1,4 +1,4 @@
-use Prim.Native.Nat.{ℕ, ◌<◌}
+use Prim.Native.Nat.{ℕ}
 use mathlib.Core.Path.{◌≡◌, refl, ap, ◌∙◌}
 use mathlib.Core.Bool.{Bool, true, false, ◌&&◌}
 use lib.Dec.{leb, ltb}
@@ -8,7 +8,7 @@ use Rattle.tasks.specs.Masks.{free_mask}
 use Rattle.tasks.specs.Words.{state_of}
 use Rattle.tasks.proofs.InWords.{WordList}
 use Rattle.tasks.proofs.Free.{ticks, frees}
-use Rattle.states.proofs.MaskLaws.{walked_falls}
+use Rattle.states.proofs.MaskLaws.{walk_up}
 use Rattle.states.specs.Bytes.{state_in}
 use Rattle.closed.specs.Keeping.{landing}
 use Rattle.closed.proofs.RowLaws.{Row, row_start, row_next, row_skipped, row_end}
@@ -26,56 +26,66 @@ due_is low high top released is e f = rw (e, f, is)
 pub words_in-v-requires : goal.words_in-v-requires
 words_in-v-requires c =
     let g = c.requires in
-    omega (arith, g.0.whole, g.4)
+    omega (arith, g.0.whole, g.3)
 
 pub gap_at-gap-requires : goal.gap_at-gap-requires
 gap_at-gap-requires c =
     let g = c.requires in
-    (omega (arith, g.0.whole, g.4), g.3)
+    (omega (arith, g.0.whole, g.3), g.2)
 
 pub returns-then-not-kept-released : goal.returns-then-not-kept-released
 returns-then-not-kept-released c = (
   omega arith,
-  row_skipped c.args.t c.args.file.now c.args.split c.args.pass c.args.i
+  row_skipped c.args.ticking.table c.args.file.now c.args.split c.args.pass c.args.i
       (due_is c.args.pass.low c.args.pass.high c.args.split.top false c.gap_at-gap.ensures c.between-kept.ensures c.landing.ensures) (due_is c.args.pass.low c.args.pass.high c.args.split.top true c.gap_at-gap.ensures c.between-released.ensures c.landing-2.ensures) (c.if-not-kept-released.true) c.args.n c.args.pending.now c.args.count,
 )
 
-pub loop-m-init : goal.loop-m-init
-loop-m-init c =
-    (omega arith, refl, row_start (omega (arith, c.free-free.type_inv)) _ _)
+pub loop-mask-init : goal.loop-mask-init
+loop-mask-init c =
+    let start = c.masks_of-mask-items.ensures.start in
+    let free = frees _ _ c.args.ticking.made c.free.ensures ∙ ap (free_mask _) c.words_in-v.ensures in
+    rw c.into_iter-mask-iterator.ensures.into_iter_gives
+    (start.0, tt, omega arith, refl, start.2 ∙ free, rw start.1 (row_start start.0.small _ _))
 
 pub put_after-c-requires : goal.put_after-c-requires
 put_after-c-requires c =
     let p = c.requires in
-    (omega (arith, p.6, c.loop-m.invariant.0, c.loop-m.invariant.1, c.loop-m-test.true), p.2)
+    let x = c.loop-mask.invariant in
+    let step = (c.in-Some.ensures {u = tt}).steps in
+    (omega (arith, p.5, x.2, x.3, step.here, step.small), p.1)
 
-pub loop-m-smaller : goal.loop-m-smaller
-loop-m-smaller c =
-    rw c.follow-m.ensures (omega (arith, walked_falls _ (omega (arith, c.free-free.type_inv)) c.loop-m.invariant.2.walked c.loop-m-test.true, c.loop-m.invariant.2.walked.most))
-
-pub loop-m-preserved : goal.loop-m-preserved
-loop-m-preserved c =
-    let small = c.loop-m-test.true in
-    let free : c.free-free.result < 256 = omega (arith, c.free-free.type_inv) in
-    let more = c.put_after-c.ensures in
-    rw c.follow-m.ensures (
-      omega (arith, more.0, c.loop-m.invariant.0, walked_falls _ free c.loop-m.invariant.2.walked small),
-      more.1.grown.same ∙ c.loop-m.invariant.1,
-      row_next free c.loop-m.invariant.2 small c.is_due-due.ensures c.type_inv.file more.1,
+pub loop-mask-preserved : goal.loop-mask-preserved
+loop-mask-preserved c =
+    let x = c.loop-mask.invariant in
+    let next = c.in-Some.ensures {u = tt} in
+    let step = next.steps in
+    let up = walk_up x.0 step in
+    let more = c.put_after-c.ensures in (
+      next.goes.keeps,
+      tt,
+      omega (arith, more.0, x.2, up.1, step.here, step.small),
+      more.1.grown.same ∙ x.3,
+      step.free ∙ x.4,
+      rw (step.free, step.next) (row_next x.0.small (rw step.here at x.5) step.small c.is_due-due.ensures c.type_inv.file more.1),
     )
 
 pub shape_of-pending : goal.shape_of-pending
 shape_of-pending c =
-    c.loop-m.invariant.1
+    c.loop-mask.invariant.3
 
 pub returns : goal.returns
-returns c = (
-  omega (arith, c.loop-m.invariant.0, c.loop-m.invariant.2.walked.most),
-  row_end (let it : Row c.args.t c.args.ticker c.args.file.now c.args.split c.args.pass c.args.i c.between-kept.result c.between-released.result c.prepare-state.result c.free-free.result = let here : state_of c.words_in-v.result ≡ state_in c.args.file.now c.args.i = c.words_in-v.ensures in
-      record {
-        keeps = due_is c.args.pass.low c.args.pass.high c.args.split.top false c.gap_at-gap.ensures c.between-kept.ensures c.landing.ensures;
-        releases = due_is c.args.pass.low c.args.pass.high c.args.split.top true c.gap_at-gap.ensures c.between-released.ensures c.landing-2.ensures;
-        ticks = λ q. ticks c.args.t _ c.requires.1 c.prepare-state.ensures c.requires.0.valid (ap (improper c.args.t) here ∙ c.requires.5) (let it : WordList c.words_in-v.result = record { word = λ i h. search rules } in it) q ∙ ap (λ u. after c.args.t u q) here;
-        frees = frees c.args.t _ c.requires.1 c.free-free.ensures ∙ ap (free_mask c.args.t) here;
-      } in it) c.requires.0.is c.requires.4 c.loop-m.invariant.2 c.loop-m-test.false,
-)
+returns c =
+    let a = c.args in
+    let g = c.requires in
+    let x = c.loop-mask.invariant in
+    let end = c.in-None.ensures {u = tt} in
+    let here : state_of c.words_in-v.result ≡ state_in a.file.now a.i = c.words_in-v.ensures in
+    let words : WordList c.words_in-v.result = record { word = λ i h. search rules } in
+    let row : Row a.ticking.table a.ticking.ticker a.file.now a.split a.pass a.i c.between-kept.result c.between-released.result c.prepare-state.result c.loop-mask.mask-iterator.free =
+    record {
+      keeps = due_is a.pass.low a.pass.high a.split.top false c.gap_at-gap.ensures c.between-kept.ensures c.landing.ensures;
+      releases = due_is a.pass.low a.pass.high a.split.top true c.gap_at-gap.ensures c.between-released.ensures c.landing-2.ensures;
+      ticks = λ q. ticks a.ticking.table _ a.ticking.made c.prepare-state.ensures g.0.valid (ap (improper a.ticking.table) here ∙ g.4) words q ∙ ap (λ u. after a.ticking.table u q) here;
+      frees = x.4;
+    } in
+    (omega (arith, x.2, end.steps), row_end row g.0.is g.3 x.5 (omega (arith, end.steps)))

@@ -19,27 +19,27 @@ and_no false = refl
 
 pub returns-then-exceeds : goal.returns-then-exceeds
 returns-then-exceeds c =
-    λ x. clash (sym c.exceeds.ensures ∙ c.if-exceeds.true) (proper_within c.args.t (state_of c.args.v) x.proper)
+    λ x. clash (sym c.exceeds.ensures ∙ c.if-exceeds.true) (proper_within c.args.ticking.table (state_of c.args.v) x.proper)
 
 pub returns-then-not-tight : goal.returns-then-not-tight
 returns-then-not-tight c =
-    let t = c.args.t in
+    let t = c.args.ticking.table in
     let v = c.args.v in
     let loose = sym c.tight.ensures ∙ c.if-not-tight.true in
-    let proper = proper_by t (state_of v) c.requires.0 (sym c.exceeds.ensures ∙ c.if-exceeds.false) (loose_kept t (state_of v) loose) in
-    record { proper = proper; calm = calm_by t c.requires.0 (state_of v) proper refl c.requires.1 (let it : WordList c.args.v = record { word = λ i h. search rules } in it) (ap (λ b. b && full_by t c.args.ticker v) loose) }
+    let proper = proper_by t (state_of v) c.requires (sym c.exceeds.ensures ∙ c.if-exceeds.false) (loose_kept t (state_of v) loose) in
+    record { proper = proper; calm = calm_by t c.requires (state_of v) proper refl c.args.ticking.made (let it : WordList c.args.v = record { word = λ i h. search rules } in it) (ap (λ b. b && full_by t c.args.ticking.ticker v) loose) }
 
 pub returns-then-misses : goal.returns-then-misses
 returns-then-misses c =
-    λ x. clash (sym c.misses.ensures ∙ c.if-misses.true) (proper_kept_all c.args.t (state_of c.args.v) x.proper)
+    λ x. clash (sym c.misses.ensures ∙ c.if-misses.true) (proper_kept_all c.args.ticking.table (state_of c.args.v) x.proper)
 
 pub returns : goal.returns
 returns c =
-    let t = c.args.t in
+    let t = c.args.ticking.table in
     let v = c.args.v in
     let within = sym c.exceeds.ensures ∙ c.if-exceeds.false in
-    let proper = proper_by t (state_of v) c.requires.0 within (sym c.misses.ensures ∙ c.if-misses.false) in
+    let proper = proper_by t (state_of v) c.requires within (sym c.misses.ensures ∙ c.if-misses.false) in
     let full = c.full_misses.ensures in
-    full_sound t (state_of v) (not c.full_misses.result) c.requires.0 proper
-    (λ e. calm_by t c.requires.0 (state_of v) proper refl c.requires.1 (let it : WordList c.args.v = record { word = λ i h. search rules } in it) (rw (sym full ∙ not-true _ e) (and_no (tight t (state_of v)))))
-    (λ e. sym (full_by_lem t c.requires.0 (state_of v) proper refl c.requires.1 (let it : WordList c.args.v = record { word = λ i h. search rules } in it)) ∙ sym full ∙ not-false _ e)
+    full_sound t (state_of v) (not c.full_misses.result) c.requires proper
+    (λ e. calm_by t c.requires (state_of v) proper refl c.args.ticking.made (let it : WordList c.args.v = record { word = λ i h. search rules } in it) (rw (sym full ∙ not-true _ e) (and_no (tight t (state_of v)))))
+    (λ e. sym (full_by_lem t c.requires (state_of v) proper refl c.args.ticking.made (let it : WordList c.args.v = record { word = λ i h. search rules } in it)) ∙ sym full ∙ not-false _ e)
