@@ -1,5 +1,5 @@
 -- The laws of keys: a state is known by its key. Assumes nothing.
-use Rattle.std.proofs.Common.{◌≡◌, ℕ, zero, suc, ◌+◌, ◌*◌, ◌/◌, ◌%◌, ◌<◌, Bool, true, false, ◌&&◌, eqb, List, length, get_or, sym, refl, ap, ◌∙◌, add-zero, add_assoc, div-add-mod', arith, ext_get_or, w8, Fits, eq-eqb, eqb-true}
+use Rattle.std.proofs.Common.{◌≡◌, ℕ, zero, suc, ◌+◌, ◌*◌, ◌/◌, ◌%◌, ◌<◌, true, false, ◌&&◌, eqb, List, length, get_or, sym, refl, ap, ◌∙◌, add-zero, add_assoc, div-add-mod', arith, ext_get_or, w8, Fits, eq-eqb, eqb-true}
 use Rattle.tasks.specs.declared.state.State.{State}
 use Rattle.lists.proofs.Bools.{and_left, and_right, clash}
 use Rattle.lists.proofs.Fill.{eight_at}
@@ -14,19 +14,6 @@ unfolding key_of word_of four_at
 key_from_lem w a = simp (add_assoc a, add-zero a)
 
 -- ---- keys are compared
-
-and_assoc : (a b c : Bool) → (a && (b && c)) ≡ ((a && b) && c)
-and_assoc true b c = refl
-and_assoc false b c = refl
-
-grouped : (a b c d : Bool) → (a && (b && (c && d))) ≡ (((a && b) && c) && d)
-grouped true b c d = and_assoc b c d
-grouped false b c d = refl
-
--- number by number
-pub keys_eq : (k l : Key) → (eqb k.a l.a && (eqb k.b l.b && (eqb k.c l.c && eqb k.d l.d))) ≡ same_keys k l
-unfolding same_keys
-keys_eq k l = grouped (eqb k.a l.a) (eqb k.b l.b) (eqb k.c l.c) (eqb k.d l.d)
 
 pub keys_same : (k l : Key) → same_keys k l ≡ true → k ≡ l
 unfolding same_keys

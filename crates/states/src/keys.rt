@@ -1,14 +1,31 @@
 // Keys: a state's sixteen bytes in four numbers. By these it is compared and hashed.
-ghost use Rattle.std.specs.Prelude.{◌≡◌, ◌+◌, ◌*◌};
+ghost use Rattle.std.specs.Prelude.{◌≡◌, ◌+◌, ◌*◌, ◌==◌, ◌&&◌};
+ghost use Rattle.std.specs.Cmp.Rules.{comparing};
+ghost use Rattle.std.proofs.Common.{rules};
 ghost use Rattle.tasks.specs.Words.{state_of};
 ghost use Rattle.states.specs.Keys.{key_of, same_keys, mixed};
 
-#[derive(Clone, Copy, Debug, PartialEq, Eq)]
+#[derive(Clone, Copy, Debug)]
 pub struct Key {
     pub a: u32,
     pub b: u32,
     pub c: u32,
     pub d: u32,
+}
+
+// All four numbers, with no branch between them: the compiler then compares them as one vector.
+impl PartialEq for Key {
+    ghost eq = { λ k l. ((k.a == l.a && k.b == l.b) && k.c == l.c) && k.d == l.d };
+
+    ghost laws = { Prim.search (comparing, rules) };
+
+    fn eq(&self, other: &Key) -> bool {
+        (self.a == other.a) & (self.b == other.b) & (self.c == other.c) & (self.d == other.d)
+    }
+}
+
+impl Eq for Key {
+    ghost laws = { Prim.search (comparing, rules) };
 }
 
 // The number of two words, low word first.

@@ -3,8 +3,9 @@ use mathlib.Core.Path.{◌≡◌, sym, ◌∙◌}
 use Rattle.tasks.specs.Words.{state_of}
 use Rattle.levels.proofs.Index.{walk_start, walk_next, walk_falls, walk_end}
 use Rattle.search.specs.Indexed.{bucket_of, tag_of, newest, tags_in}
+use Rattle.states.specs.Keys.{same_keys}
 use Rattle.states.proofs.WordLaws.{word_bytes}
-use Rattle.states.proofs.KeyLaws.{Bytes, keys_eq, keys_same, keys_differ}
+use Rattle.states.proofs.KeyLaws.{Bytes, keys_same, keys_differ}
 use Rattle.search.proofs.IndexLaws.{keyed, not_tagged}
 use Rattle.states.proofs.ColumnLaws.{held, held_key}
 use native.Mathlib.Omega.{arith}
@@ -27,8 +28,9 @@ unfolding newest
 loop-j-init c = rw c.bucket-b.ensures.0 (walk_start (keyed c.requires) c.key_of-key.result)
 
 pub returns-then-eq : goal.returns-then-eq
+unfolding same_keys
 returns-then-eq c =
-    let e = keys_same _ _ (sym (c.eq.ensures ∙ keys_eq _ _) ∙ c.if-eq.true) in
+    let e = keys_same c.key_in.result c.key_of-key.result (sym c.eq.ensures ∙ c.if-eq.true) in
     held _ (state_of c.args.v) c.type_inv.work (let it : Bytes (state_of c.args.v) = word_bytes c.args.v (λ k b. search rules) in it)
     (record { place = c.in-Some.j; below = omega (arith, c.loop-j.invariant.low, c.in-Some.ensures); same = sym c.key_in.ensures ∙ e ∙ c.key_of-key.ensures })
 
@@ -44,9 +46,10 @@ loop-j-smaller c =
     rw (c.link_of-cur.ensures, j) (walk_falls (keyed c.requires) c.key_of-key.result c.loop-j.cur (omega arith) c.loop-j.invariant)
 
 pub loop-j-preserved : goal.loop-j-preserved
+unfolding same_keys
 loop-j-preserved c =
     let j : c.in-Some.j ≡ c.loop-j.cur - 1 = omega (arith, c.in-Some.ensures) in
-    let differ = keys_differ _ _ (sym (c.eq.ensures ∙ keys_eq _ _) ∙ c.if-eq.false) in
+    let differ = keys_differ c.key_in.result c.key_of-key.result (sym c.eq.ensures ∙ c.if-eq.false) in
     rw (c.link_of-cur.ensures, j)
     (walk_next (keyed c.requires) c.key_of-key.result c.loop-j.cur (omega arith) c.loop-j.invariant
     (λ q. differ (c.key_in.ensures ∙ rw j q)))
