@@ -272,13 +272,11 @@ pub(crate) fn all_inside(
     ensures { InsideIs ticking.table file.now Every result }
 {
     let step = width(split.top, n);
-    let mut low: usize = 0;
-    while low <= split.top {
-        let high = low + step;
-        if !band_inside(ticking, file, cells, n, split, low, high) {
+    for band in 0..split.top / step + 1 {
+        let low = band * step;
+        if !band_inside(ticking, file, cells, n, split, low, low + step) {
             return false;
         }
-        low = high;
     }
     true
 }

@@ -120,6 +120,10 @@ pub bytes_high : (x : ℕ) → 128 ≤ x → number_bytes x ≡ (x % 128 + 128) 
 unfolding number_bytes
 bytes_high x h = ap bytes_of (groups_more x h) ∙ bytes_before (x % 128) (groups_canonical (x / 128))
 
+-- a number of two bytes
+pub bytes_two : (x : ℕ) → 128 ≤ x → x < 256 → number_bytes x ≡ (x % 128 + 128) ∷ x / 128 ∷ []
+bytes_two x h v = bytes_high x h ∙ ap (λ r. (x % 128 + 128) ∷ r) (bytes_low (x / 128) (omega arith))
+
 -- a group list that is canonical is not empty
 some_group : {least : ℕ} {gs : List ℕ} → Canonical least gs → 1 ≤ length gs
 some_group (alone l b) = omega arith

@@ -34,21 +34,7 @@ pub fn read_number(s: &[u8], at: usize) -> Result<(usize, usize), Refusal>
 pub(crate) fn number_len(x: u8) -> usize
     ensures { (result ≡ length (number_bytes x)) × (result ≤ 2) }
 {
-    let mut rest = x;
-    let mut n: usize = 1;
-    while 128 <= rest {
-        rest = rest / 128;
-        n += 1;
-    }
-    n
-}
-
-// Writes a byte at a place.
-fn put_byte(out: &mut [u8], at: usize, x: u8)
-    requires { at < length out.old }
-    ensures { out.new ≡ set out.old at x }
-{
-    out[at] = x;
+    if x < 128 { 1 } else { 2 }
 }
 
 // Writes a number at a place, and answers the place after it.
@@ -56,13 +42,11 @@ pub(crate) fn put_number(out: &mut [u8], at: usize, x: u8) -> usize
     requires { at + length (number_bytes x) ≤ length out.old }
     ensures { (result ≡ at + length (number_bytes x)) × (out.new ≡ sets out.old at (number_bytes x)) }
 {
-    let mut rest = x;
-    let mut i = at;
-    while 128 <= rest {
-        put_byte(out, i, rest % 128 + 128);
-        rest = rest / 128;
-        i += 1;
+    if x < 128 {
+        out[at] = x;
+        return at + 1;
     }
-    put_byte(out, i, rest);
-    i + 1
+    out[at] = x % 128 + 128;
+    out[at + 1] = x / 128;
+    at + 2
 }

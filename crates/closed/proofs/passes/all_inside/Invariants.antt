@@ -1,13 +1,10 @@
 -- The invariant: the pairs of the bands passed lead to states of the file. Assumes nothing.
-use Prim.Native.Nat.{◌+◌, ◌-◌}
+use Prim.Native.Nat.{◌*◌}
 use mathlib.Core.Path.{◌≡◌}
 use lib.ListN.{length}
 use Rattle.closed.specs.Keeping.{Inside}
 use Rattle.closed.proofs.InsideLaws.{BandsTo}
 use Rattle.closed.proofs.passes.all_inside.Given as goal
 
-abbrev pub invariant-loop-low : goal.invariant-loop-low
-invariant-loop-low l = (length l.cells ≡ length l.initial.cells) × Inside l.ticking.table l.file (BandsTo l.ticking.table l.file l.split l.low)
-
-abbrev pub decreases-loop-low : goal.decreases-loop-low
-decreases-loop-low l = l.split.top + 1 - l.low
+abbrev pub invariant-loop-band : goal.invariant-loop-band
+invariant-loop-band l = (length l.cells ≡ length l.initial.cells) × Inside l.ticking.table l.file (BandsTo l.ticking.table l.file l.split (l.band * l.step))
