@@ -1,4 +1,5 @@
--- What an accepted file means (document 02, §1): "Whoever made the file, an accepted one means no finite release list misses". Assumes nothing.
+-- What an accepted file means (document 02, §1): "Whoever made the file, an accepted one means no finite release list misses". Assumes
+-- nothing.
 use Prim.Native.Nat.{ℕ, ◌<◌}
 use mathlib.Core.Path.{◌≡◌, refl, sym, ap, ◌∙◌}
 use mathlib.Core.List.{List, [], ◌∷◌}

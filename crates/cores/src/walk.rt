@@ -1,4 +1,5 @@
-// A walk through the ready tasks in the order of their places that gives each a processor while one is left, and carries the number given out.
+// A walk through the ready tasks in the order of their places that gives each a processor while one is left, and carries the number
+// given out.
 ghost use Rattle.std.specs.Prelude.{◌≡◌, ◌+◌, ◌<◌, ◌≤◌, get_or, ◌&&◌, eqb};
 ghost use Rattle.lists.specs.Lists.{eight, pick, count};
 ghost use Rattle.cores.specs.Walk.{under, capped, sooner, rank, kept_count, ready_count, served, Walked};
@@ -33,7 +34,8 @@ fn above(place: u16) -> u16
     place.saturating_add(1)
 }
 
-// Whether a task with place y and number k goes before one with place x and number i. In this form a rank takes the compiler one comparison.
+// Whether a task with place y and number k goes before one with place x and number i. In this form a rank takes the compiler one
+// comparison.
 fn sooner(y: u16, k: usize, x: u16, i: usize) -> bool
     ensures { result ≡ sooner y k x i }
 {
@@ -74,7 +76,7 @@ fn ranks(places: [u16; 8]) -> [u16; 8]
     ranks
 }
 
-// The same, one task after the other.
+// The same, one task after the other: for a single tick that is sooner (docs/DECISIONS.md, "Two ways to rank").
 fn ranks_singly(places: [u16; 8]) -> [u16; 8]
     ensures { result ≡ eight (rank places 8) }
 {
@@ -129,7 +131,8 @@ fn assign_rest(places: [u16; 8], m: u16, waiting: u16, walk: Walk) -> Walk
     }
 }
 
-// Which tasks run with m processors: 1 for each, and 0 for the others. One step after the other, while a processor is left and a task waits for it.
+// Which tasks run with m processors: 1 for each, and 0 for the others. One step after the other, while a processor is left and a task
+// waits for it; here and below the `while` asks the walk, which carries the number given out.
 pub fn assign(places: [u16; 8], m: u16) -> [u16; 8]
     ensures { result ≡ served places m }
 {

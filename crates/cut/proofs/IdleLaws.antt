@@ -1,4 +1,5 @@
--- States in which the tasks after the kth have no job: there a tick of the cut table is a tick of the whole, under every policy. Assumes nothing.
+-- States in which the tasks after the kth have no job: there a tick of the cut table is a tick of the whole, under every policy. Assumes
+-- nothing.
 use Prim.Native.Nat.{ℕ, ◌≤◌, ◌<◌}
 use mathlib.Core.Path.{◌≡◌, refl, sym, ap, ap₂, ◌∙◌}
 use mathlib.Core.Bool.{true, false, ◌&&◌, ◌||◌}

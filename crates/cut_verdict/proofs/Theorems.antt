@@ -1,4 +1,5 @@
--- A Safe table's cut is Safe, with no more states (document 02, §9, and demand 3), under P-GFP and under every other policy. Assumes nothing.
+-- A Safe table's cut is Safe, with no more states (document 02, §9, and demand 3), under P-GFP and under every other policy. Assumes
+-- nothing.
 use Prim.Native.Nat.{ℕ, ◌≤◌, ◌<◌}
 use mathlib.Core.Path.{◌≡◌, refl, sym, ap, ◌∙◌}
 use mathlib.Core.Logic.{◌⊎◌, ⊎_elim}
@@ -59,7 +60,8 @@ module _ (t : Table) (k : ℕ) (x : Cut t k) where
         ∙ ap Next (sym after_is)
         ∙ sym (step_next (cut_table k t) (cut_valid t k x) s proper m small part_sub (missed_is ∙ h)))
 
-  -- LAW: the system of a cut table is a part of the whole's, under every policy: it refuses what releases a task after the kth, and does the same otherwise
+  -- LAW: the system of a cut table is a part of the whole's, under every policy: it refuses what releases a task after the kth, and does
+  -- the same otherwise
   pub cut_part :
       (s : State) → Reached (system (cut_table k t)) s → (m : ℕ) → (step (cut_table k t) s m ≡ Refused) ⊎ (step t s m ≡ step (cut_table k t) s m)
   cut_part s r m =
@@ -96,7 +98,8 @@ spaces_same K trace trace₂ e = rw e
 module _ (work work' trace trace' w w' trace₂ trace₂' : List ℕ) (f g : Figures) (same : slots_in w ≡ slots_in work) (long : length trace₂ ≡ length trace)
     (safe : f.kind ≡ 1)
   where
-    -- THEOREM: for every table, whatever its policy, and every k from 1 to n: where the search of the table answers Safe with N states, that of its cut answers
+    -- THEOREM: for every table, whatever its policy, and every k from 1 to n: where the search of the table answers Safe with N states,
+    -- that of its cut answers
     -- Safe with at most N
     pub table_cut_safe :
         (t : Table) (k : ℕ) → cut_refusal t k ≡ 0 → TableSearch t work work' trace trace' f

@@ -1,4 +1,5 @@
--- From a Safe search to a file that is accepted (document 02, §1, "the states of any Safe search, copied out, are accepted"). Assumes nothing.
+-- From a Safe search to a file that is accepted (document 02, §1, "the states of any Safe search, copied out, are accepted"). Assumes
+-- nothing.
 use Prim.Native.Nat.{ℕ, ◌+◌, ◌*◌, ◌%◌, ◌≤◌, ◌<◌}
 use mathlib.Core.Path.{◌≡◌, sym, ap, ◌∙◌}
 use mathlib.Core.Bool.{true, false}
@@ -64,8 +65,10 @@ module _ {l : Layout} {K : ℕ} {t : Table} (valid : table_fault t ≡ 0) {work 
           contained = rw is (contained u (reached_next (system t) r m (step_next t valid s proper m small sub e)));
         })
 
-    -- LAW: where a search of a valid table answers Safe with N states, any file that has exactly the states of its first N slots is closed: it has the
-    -- start state, its states are proper, and every legal mask leads from each of them, without a miss, to one of them. Neither the order of the states
+    -- LAW: where a search of a valid table answers Safe with N states, any file that has exactly the states of its first N slots is
+    -- closed: it has the
+    -- start state, its states are proper, and every legal mask leads from each of them, without a miss, to one of them. Neither the
+    -- order of the states
     -- nor repeats matter.
     pub safe_closed : Closed t file
     safe_closed =
@@ -124,7 +127,8 @@ table_file : (t : Table) (file : List ℕ) → table_fault t ≡ 0 → file_refu
 unfolding table_file_refusal
 table_file t file valid whole = rw (valid, whole)
 
--- LAW: for every table. Where `search_table` answers Safe with N states, the checker accepts the first 16 N bytes of its work space as a file for the table.
+-- LAW: for every table. Where `search_table` answers Safe with N states, the checker accepts the first 16 N bytes of its work space as a
+-- file for the table.
 pub table_accepted :
     (t : Table) (work work' trace trace' : List ℕ) (f : Figures) → TableSearch t work work' trace trace' f → f.kind ≡ 1
     → (a : List ℕ) → TableJudged t (file_of work' f.N) a → a ≡ 1 ∷ []

@@ -1,4 +1,5 @@
--- One job by its numbers (document 01, "State"): deadline D and least gap P of its task, the ticks p until the task may be released again, and
+-- One job by its numbers (document 01, "State"): deadline D and least gap P of its task, the ticks p until the task may be released
+-- again, and
 -- the work left c.
 use Rattle.std.specs.Prelude.{ℕ, Bool, not, ◌&&◌, ◌||◌, ℤ, pos, ◌-ℤ◌, int_lt, nat_lt}
 use Rattle.lists.specs.Lists.{pick}
@@ -29,7 +30,8 @@ job_key policy deadline gap p c =
     (pick (nat_lt policy 4) (time_left deadline gap p)
     (slack deadline gap p c))
 
--- what settles equal keys before the task's number does (document 02, §4): nothing under fixed priority, else the age, of which the greater goes first
+-- what settles equal keys before the task's number does (document 02, §4): nothing under fixed priority, else the age, of which the
+-- greater goes first
 unfoldable pub job_age : ℕ → ℕ → ℕ → ℤ
 job_age policy gap p = pick (nat_lt policy 2) (pos 0) (age gap p)
 

@@ -45,7 +45,8 @@ module _ (sys : System) where
       go ih (Missed t) = let e : k + suc j ≡ suc (k + j) = omega arith in rw e
       go ih Refused = let e : k + suc j ≡ suc (k + j) = omega arith in rw e
 
-  -- playing two joined lists is playing the second from the state where the first was Kept, with its tick numbers raised by the first's length
+  -- playing two joined lists is playing the second from the state where the first was Kept, with its tick numbers raised by the first's
+  -- length
   pub replay_join : (a b : List Mask) {s : State} → Reaches sys a s → replay sys (a ++ b) ≡ raise (length a) (replay_from sys 0 s b)
   replay_join a b {s} r = from_join 0 start a b ∙ (rw (r, zero-add) (rw add-zero at (from_raise (length a) 0 s b)))
 

@@ -1,4 +1,5 @@
--- The steps of the whole search, a law for each: it starts, finds a miss, opens a level, tries a mask, fills a slot, closes a row, goes on, ends.
+-- The steps of the whole search, a law for each: it starts, finds a miss, opens a level, tries a mask, fills a slot, closes a row, goes
+-- on, ends.
 use mathlib.Core.Path.{◌≡◌}
 use mathlib.Core.Logic.{◌⊎◌}
 use mathlib.Core.List.{List, [], ◌∷◌, ◌++◌}

@@ -1,4 +1,5 @@
--- The lines of a verdict (document 01, "Benchmark tables"), as bytes: `safe N`, `unsafe L N` then one mask a line, `room K`, or `refused R`.
+-- The lines of a verdict (document 01, "Benchmark tables"), as bytes: `safe N`, `unsafe L N` then one mask a line, `room K`, or `refused
+-- R`.
 use Rattle.std.specs.Prelude.{ℕ, zero, suc, ◌+◌, ◌/◌, ◌%◌, List, [], ◌∷◌, ◌++◌, ltb, length, take, drop, Result, Ok, Err}
 use Rattle.lists.specs.Lists.{pick}
 use Rattle.tasks.specs.Refusals.{refusal_number}

@@ -3,7 +3,7 @@ ghost use Rattle.std.specs.Prelude.{◌≡◌, ◌+◌, ◌≤◌, ◌++◌, len
 ghost use Rattle.std.proofs.lemmas.List.Edits.{sets};
 ghost use Rattle.lines.specs.Lines.{decimal, line};
 
-// How many digits a number has.
+// How many digits a number has. Here and in `put_decimal` the loop goes over the digits: no promise of the library says them.
 pub(crate) fn decimal_len(x: usize) -> usize
     ensures { (result ≡ length (decimal x)) × (result ≤ 20) }
 {

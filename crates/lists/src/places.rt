@@ -1,4 +1,5 @@
-// Searches over the eight places of a table. Each place is tested, with no way out before the last: the compiler makes vectors of such a loop.
+// Searches over the eight places of a table. Each place is tested, with no way out before the last: the compiler makes vectors of such a
+// loop.
 ghost use Rattle.std.specs.Prelude.{◌≡◌, ◌<◌, ℕ, Bool};
 ghost use Rattle.lists.specs.Lists.{any, count};
 
@@ -21,7 +22,7 @@ pub fn count_places<F: Fn(usize) -> bool>(test: F) -> u8
 {
     let mut n: u8 = 0;
     for i in 0..8 {
-        n += test(i) as u8;
+        n += u8::from(test(i));
     }
     n
 }

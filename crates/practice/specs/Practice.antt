@@ -1,4 +1,5 @@
--- Practice tables (document 02, §7): a table that anyone can make again from policy, m, n and a number s of 16 bits. Tasks are counted from 0.
+-- Practice tables (document 02, §7): a table that anyone can make again from policy, m, n and a number s of 16 bits. Tasks are counted
+-- from 0.
 use Rattle.std.specs.Prelude.{ℕ, zero, suc, ◌+◌, ◌*◌, ◌%◌, ltb}
 use Rattle.lists.specs.Lists.{pick, front}
 use Rattle.std.specs.Prelude.{Result}

@@ -82,7 +82,8 @@ module _ (t : Table) (valid : table_fault t ≡ 0) (list : List ℕ) (short : le
       rw (releases_read x space room i h (omega (arith, few_releases)), ran_read x space room i h (omega (arith, few_ticks)), left_read x space room i h (omega (arith, little_left)))
       ((balance t list).each i h)
 
--- THEOREM: after every call with an accepted sheet and room for the totals, whatever the list and the answer, the bytes of each task balance
+-- THEOREM: after every call with an accepted sheet and room for the totals, whatever the list and the answer, the bytes of each task
+-- balance
 pub service_balanced :
     (sheet list space : List ℕ) → ((j : ℕ) → get_or sheet j 0 < 256) → {t : Table} → sheet_of sheet ≡ Ok t → length list < 2 ^ 48
     → 192 ≤ length space → (i : ℕ) → i < 8

@@ -1,4 +1,5 @@
--- The sheet of a cut table for the plotter's C build (document 02, §9). The answer is kind × 2^48 + N: kind 1 done with N the sheet's length, kind 0 refused
+-- The sheet of a cut table for the plotter's C build (document 02, §9). The answer is kind × 2^48 + N: kind 1 done with N the sheet's
+-- length, kind 0 refused
 -- with N the refusal's number.
 use Rattle.std.specs.Prelude.{ℕ, List, ltb}
 use Rattle.lists.specs.Lists.{pick}
@@ -9,7 +10,8 @@ use Rattle.ronchhek.specs.Tables.{sheet_number}
 
 -- ---- of a table
 
--- why it is not cut, of a valid table 6 where k is outside 1 to n; else what the writer makes of the cut table: 12, or the length of its sheet
+-- why it is not cut, of a valid table 6 where k is outside 1 to n; else what the writer makes of the cut table: 12, or the length of its
+-- sheet
 unfoldable pub first_number : Table → ℕ → List ℕ → ℕ
 first_number t k out = pick (ltb 0 (cut_refusal t k)) (cut_refusal t k) (sheet_number (cut_table k t) out)
 

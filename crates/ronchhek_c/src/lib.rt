@@ -1,5 +1,6 @@
 // The calls of include/ronchhek.h, under their C names: each calls the function of `ronchhek` of its name, and promises what that one
-// promises. `tools/build ronchhek` makes target/staticlib/libronchhek.a of this crate.
+// promises. `tools/build ronchhek` makes target/staticlib/libronchhek.a of this crate. The calls stand twice, since a crate is a library or
+// a static library, and the programs call the library.
 #![tactic(auto)]
 
 mod cuts;

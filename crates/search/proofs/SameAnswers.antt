@@ -1,4 +1,5 @@
--- Answer and count do not depend on the layout (document 02, §6: "for the same K answer and count are those of the old layout"). Assumes nothing.
+-- Answer and count do not depend on the layout (document 02, §6: "for the same K answer and count are those of the old layout"). Assumes
+-- nothing.
 use Prim.Native.Nat.{ℕ}
 use mathlib.Core.Path.{◌≡◌, sym, ap, ◌∙◌}
 use mathlib.Core.List.{List}

@@ -1,5 +1,6 @@
 -- What a search answers and leaves: demand 3, the slots, the trace and the refusals (document 01, "The search" and "Refusals by cause").
--- This is the file to believe, with Verdict.antt and Slots.antt of `levels`, System.antt of `states`, and Layout.antt of `slots`, where the slots stand.
+-- This is the file to believe, with Verdict.antt and Slots.antt of `levels`, System.antt of `states`, and Layout.antt of `slots`, where
+-- the slots stand.
 use Rattle.std.specs.Prelude.{◌≡◌, List, ℕ, ◌/◌, ◌≤◌, ◌<◌, min, eqb, ltb, length, take, drop, Result, Ok, Err}
 use Rattle.lists.specs.Lists.{pick}
 use Rattle.tasks.specs.Table.{table_fault}
@@ -66,7 +67,8 @@ refusal_figures r = record { kind = 0; L = 0; N = r }
 
 -- ---- the one claim
 
--- Unsafe "gives L masks whose replay is Missed at tick L": the replay that the public call promises, of the first L bytes of the trace space
+-- Unsafe "gives L masks whose replay is Missed at tick L": the replay that the public call promises, of the first L bytes of the trace
+-- space
 abbrev pub Replays : Table → List ℕ → Answer → Type 0
 Replays t trace (Unsafe L n) = (replayed t (take L trace)).answer ≡ ReplayAnswer.Played (Outcome.Missed L)
 Replays t trace (Safe n) = Unit {0}
@@ -77,7 +79,8 @@ pub record Searched (l : Layout) (K : ℕ) (t : Table) (work work' trace trace' 
   -- demand 3 in full; under Unsafe the masks given are the first L bytes of the trace space
   pub verdict : Verdict (system t) K a (take (masks_of a) trace')
   pub replays : Replays t trace' a
-  -- "the written slots are the first N", which the work space has: slot 0 the start state with parent 0 and mask 0, any other from an earlier slot by a tick
+  -- "the written slots are the first N", which the work space has: slot 0 the start state with parent 0 and mask 0, any other from an
+  -- earlier slot by a tick
   pub rule : SlotRule (system t) (state_at l work') (parent_at l work') (mask_at l work') 0 (count_of a)
   pub most : count_of a ≤ K
   -- "each a state reached without a miss, no two the same"
@@ -86,7 +89,8 @@ pub record Searched (l : Layout) (K : ℕ) (t : Table) (work work' trace trace' 
   pub complete : Complete (system t) (state_at l work') a
   -- the zero bytes of a slot, where the layout has some, are 0
   pub zeros : (i : ℕ) → i < count_of a → Zeros l work' i
-  -- "Work bytes that stay are now those of unwritten slots in each column and those after the third" (02, §6): all that are in no part of a written slot
+  -- "Work bytes that stay are now those of unwritten slots in each column and those after the third" (02, §6): all that are in no part
+  -- of a written slot
   pub work_rest : Stays l (count_of a) work work'
   pub work_length : length work' ≡ length work
   -- "Unsafe writes L masks at the front of the trace space; the rest stays. Safe and No room do not touch it"

@@ -25,7 +25,7 @@ fn tag_bit(key: Key) -> u32
     1 << tag
 }
 
-// Whether one of the first n of k slots holds the state in the words v.
+// Whether one of the first n of k slots holds the state in the words v. The chain's links lie in the work space: no heap, no index.
 pub(crate) fn holds(work: &[u8], heads: &[u32], k: usize, n: usize, v: [u16; 8]) -> bool
     requires { Indexed k work.now heads.now n }
     ensures { HeldIs work.now n (state_of v) result }

@@ -29,7 +29,7 @@ pub(crate) enum End {
     Full,
 }
 
-// Searches the states of a valid table, with k slots. The words stay in the place of the parents.
+// Searches the states of a valid table, with k slots. The words stay in the place of the parents. A `loop`, since it ends in three ways.
 pub(crate) fn run_levels(
     ticking: Ticking,
     work: &mut [u8],

@@ -80,7 +80,7 @@ fn store_block(
 }
 
 // Stores the successors of the slots from lo to hi - 1 that are new, block by block: the loop over slots then asks for nothing but their
-// masks.
+// masks (docs/DECISIONS.md, "The last pass apart, and storing by blocks").
 pub(crate) fn store_level(
     ticking: Ticking,
     work: &mut [u8],

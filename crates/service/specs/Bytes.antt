@@ -1,4 +1,5 @@
--- The totals of a replay as 192 bytes (document 02, §5, for the plotter's C build): three numbers of task 1, then of task 2 and so on, 8 bytes each.
+-- The totals of a replay as 192 bytes (document 02, §5, for the plotter's C build): three numbers of task 1, then of task 2 and so on, 8
+-- bytes each.
 use Rattle.std.specs.Prelude.{Result, Ok, Err}
 use Rattle.tasks.specs.declared.refusal.Refusal.{Refusal}
 use Rattle.std.specs.Prelude.{ℕ, zero, suc, ◌+◌, ◌*◌, ◌/◌, ◌%◌, List, [], ◌∷◌, ◌++◌, ltb, length, get_or, drop}

@@ -7,7 +7,8 @@ ghost use Rattle.service.specs.Totals.{account_of, Balanced};
 use crate::totals::{Account, account_of, named, raised};
 use tasks::{Outcome, Refusal, ReplayAnswer, State, Table};
 
-// The masks of a valid table played from the start state, up to the first miss or refusal. Every state on the way is proper, so of a tick's refusals
+// The masks of a valid table played from the start state, up to the first miss or refusal. Every state on the way is proper, so of a
+// tick's refusals
 // only that of the mask is asked for.
 fn play(t: Table, masks: &[u8]) -> Account
     requires { table_fault t ≡ 0 }

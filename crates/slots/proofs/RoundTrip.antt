@@ -1,4 +1,5 @@
--- Slots written in a layout and read again (document 02, §6: "any list of at most K slots, written in either layout, reads back as the same slots"). Assumes
+-- Slots written in a layout and read again (document 02, §6: "any list of at most K slots, written in either layout, reads back as the
+-- same slots"). Assumes
 -- nothing.
 use Prim.Native.Nat.{ℕ, zero, suc, ◌+◌, ◌*◌, ◌≤◌, ◌<◌}
 use mathlib.Core.Path.{◌≡◌, refl, sym, ap, ◌∙◌}

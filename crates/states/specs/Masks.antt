@@ -1,4 +1,5 @@
--- Only the search's bookkeeping, no part of its claim. The legal masks of a state: the submasks of the mask of all tasks that may be released, in increasing order.
+-- Only the search's bookkeeping, no part of its claim. The legal masks of a state: the submasks of the mask of all tasks that may be
+-- released, in increasing order.
 use Rattle.std.specs.Prelude.{◌≡◌, ℕ, zero, suc, ◌+◌, ◌-◌, ◌%◌, ◌<◌, ◌≤◌, ◌==◌, Bool, true, not, ◌&&◌, ◌||◌, bit_and, Option, Some, None, MatchOption}
 use Rattle.lists.specs.Lists.{pick}
 use Rattle.tasks.specs.Tick.{bit}

@@ -32,7 +32,7 @@ impl Eq for Key {
 fn double(x: u16, y: u16) -> u32
     ensures { result ≡ x + 65536 * y }
 {
-    (x as u32) + 65536 * (y as u32)
+    u32::from(x) + 65536 * u32::from(y)
 }
 
 // The key of a state in words.

@@ -1,4 +1,5 @@
--- Strict total orders: by task number, by a signed number first, how many go before, and the last of those that pass a test. Assumes nothing.
+-- Strict total orders: by task number, by a signed number first, how many go before, and the last of those that pass a test. Assumes
+-- nothing.
 use Prim.Native.Nat.{ℕ, zero, suc, ◌<◌}
 use mathlib.Core.Path.{◌≡◌, refl, ap}
 use mathlib.Core.Bool.{Bool, true, false, not, ◌&&◌, ◌||◌}

@@ -33,7 +33,8 @@ unfoldable pub replayed : Table → List ℕ → Replayed
 replayed t masks =
     pick (ltb 0 (table_fault t)) (record { answer = Refused (refusal_at (table_fault t)) 0; state = start }) (played t start 0 masks)
 
--- the masks played on from any state (document 02, §9), after k ticks: refused before the first tick with 4 to 7 for the table, then 13 for the state
+-- the masks played on from any state (document 02, §9), after k ticks: refused before the first tick with 4 to 7 for the table, then 13
+-- for the state
 unfoldable pub played_from : Table → State → ℕ → List ℕ → Replayed
 played_from t s k masks =
     pick (ltb 0 (table_fault t)) (record { answer = Refused (refusal_at (table_fault t)) 0; state = s })

@@ -1,5 +1,6 @@
 -- Many ticks with one table, on states in words. No part of the paper's model: the contracts of src/ticker.rt cite it, and
--- proofs/Ticking.antt and proofs/Free.antt show that from a proper state it gives the state after a tick of Tick.antt, and from any the mask of Masks.antt.
+-- proofs/Ticking.antt and proofs/Free.antt show that from a proper state it gives the state after a tick of Tick.antt, and from any the
+-- mask of Masks.antt.
 use Rattle.std.specs.Prelude.{ℕ, ◌+◌, ◌-◌, ◌*◌, ◌/◌, ◌%◌, ◌^◌, List, Bool, false, get_or, eqb, ltb}
 use Rattle.std.specs.Int.Bits.{bit_and}
 use Rattle.lists.specs.Lists.{eight, pick, bits_of}

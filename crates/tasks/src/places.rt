@@ -8,7 +8,8 @@ use crate::state::State;
 use crate::table::Table;
 use std::array;
 
-// For each task, how many of the first j go before it, with task j counted too.
+// For each task, how many of the first j go before it, with task j counted too. Here and below, and in the ranks of `cores`, arrays are
+// filled by `for`: with `array::from_fn` a choice took 657 instructions, and 570 so.
 fn count_job(counts: [u16; 8], keys: [i16; 8], ages: [i16; 8], j: usize) -> [u16; 8]
     requires { (j < 8) × (counts ≡ eight (earlier_in keys ages j)) }
     ensures { result ≡ eight (earlier_in keys ages (j + 1)) }
@@ -20,7 +21,8 @@ fn count_job(counts: [u16; 8], keys: [i16; 8], ages: [i16; 8], j: usize) -> [u16
     out
 }
 
-// For each task, how many go before it, by the keys and ages of all. A job is counted for all tasks at once, which the compiler makes into vectors.
+// For each task, how many go before it, by the keys and ages of all. A job is counted for all tasks at once, which the compiler makes
+// into vectors.
 fn count_earlier(keys: [i16; 8], ages: [i16; 8]) -> [u16; 8]
     ensures { result ≡ eight (earlier_in keys ages 8) }
 {

@@ -7,7 +7,7 @@ ghost use Rattle.tasks.specs.Tick.{bit, released, ran, missed, illegal_at, illeg
 use crate::table::Table;
 use std::array;
 
-// For each of eight tasks: the work left c, and the ticks p until it may be released again.
+// For each of eight tasks: the work left c, and the ticks p until it may be released again. Document 01 names this form.
 #[derive(Clone, Copy, Debug, PartialEq, Eq)]
 pub struct State {
     pub c: [u8; 8],

@@ -9,7 +9,8 @@ use crate::refusal::Refusal;
 // The last policy.
 pub(crate) const LAST_POLICY: usize = 4;
 
-// A table in memory: policy, processors, tasks, and for each of eight tasks its work C, deadline D and least gap P.
+// A table in memory: policy, processors, tasks, and for each of eight tasks its work C, deadline D and least gap P. The policy is a
+// number, since a table may hold any; the columns are those of which the definitions speak, and a ticker is made of whole ones.
 #[derive(Clone, Copy, Debug, PartialEq, Eq)]
 pub struct Table {
     pub policy: u8,

@@ -6,7 +6,8 @@ ghost use Rattle.std.specs.Prelude.{◌≤◌, length, IfOk};
 use std::io;
 use std::io::Read;
 
-// Reads until the bytes lent are full or the input ends, and answers how many were read.
+// Reads until the bytes lent are full or the input ends, and answers how many were read. `read_exact` does not say how many, and
+// `read_to_end` takes the heap.
 fn read_full(input: &mut impl Read, bytes: &mut [u8]) -> io::Result<usize>
     ensures { IfOk result (λ got. got ≤ length bytes.new) }
 {
