@@ -1,6 +1,5 @@
 // The public calls: whether a file of states is closed, for a table and for a sheet.
 ghost use Rattle.std.specs.Prelude.{◌≡◌, ◌<◌, ◌≤◌, length};
-ghost use Rattle.tasks.specs.Table.{table_fault};
 ghost use Rattle.closed.specs.Closed.{file_refusal, closed_answer, Judged, TableJudged, SheetJudged};
 ghost use Rattle.closed.specs.Keeping.{Given, SoundIs, ClosedIs};
 
@@ -8,7 +7,7 @@ use crate::file::scan;
 use crate::passes::{all_inside, split_of};
 use crate::sound::is_sound;
 use states::{Ticking, key_of, words_in};
-use tasks::{Refusal, Table};
+use tasks::{Refusal, Table, Valid};
 
 // Whether every state of the file is proper, and no mask misses from any.
 fn all_sound(ticking: Ticking, file: &[u8], n: usize) -> bool
@@ -59,15 +58,14 @@ fn closed_sized(t: Table, file: &[u8], n: usize) -> bool
 }
 
 // The answer for a valid table.
-fn closed_valid(t: Table, file: &[u8]) -> Result<bool, Refusal>
-    requires { table_fault t ≡ 0 }
-    ensures { Judged (file_refusal file.now) t file.now (closed_answer result) }
+fn closed_valid(valid: Valid, file: &[u8]) -> Result<bool, Refusal>
+    ensures { Judged (file_refusal file.now) valid.table file.now (closed_answer result) }
 {
     let length = file.len();
     if length == 0 || 0 < length % 16 {
         return Err(Refusal::FileLength);
     }
-    Ok(closed_sized(t, file, length / 16))
+    Ok(closed_sized(valid.table, file, length / 16))
 }
 
 // Whether a file of states is closed under the ticks of a table.
@@ -75,7 +73,7 @@ pub fn closed_table(t: Table, file: &[u8]) -> Result<bool, Refusal>
     ensures { TableJudged t file.now (closed_answer result) }
 {
     t.check()?;
-    closed_valid(t, file)
+    closed_valid(Valid { table: t }, file)
 }
 
 // .. under the ticks of a sheet's table.
@@ -83,5 +81,5 @@ pub fn closed_sheet(sheet: &[u8], file: &[u8]) -> Result<bool, Refusal>
     ensures { SheetJudged sheet.now file.now (closed_answer result) }
 {
     let t = tasks::read_sheet(sheet)?;
-    closed_valid(t, file)
+    closed_valid(Valid { table: t }, file)
 }

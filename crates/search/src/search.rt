@@ -1,6 +1,5 @@
 // The public calls: the search of a table and the search of a sheet.
 ghost use Rattle.std.specs.Prelude.{◌≡◌, ◌/◌, ◌<◌, ◌≤◌, min, Ok};
-ghost use Rattle.tasks.specs.Table.{table_fault};
 ghost use Rattle.slots.specs.Layout.{columns};
 ghost use Rattle.search.specs.Claim.{slots_in, spaces_refusal, figures, Found, Search, TableSearch, SheetSearch};
 ghost use Rattle.search.specs.Keeping.{written_by, Fresh, RanBy, Lent, Finishing, Finished};
@@ -9,7 +8,7 @@ use crate::outcome::report;
 use crate::run::{End, Verdict, run_levels};
 use slots::settle;
 use states::Ticking;
-use tasks::{Refusal, Table};
+use tasks::{Refusal, Table, Valid};
 
 // How many slots a work space of this length has, at most 1,000,000.
 fn slots_in(length: usize) -> usize
@@ -77,9 +76,8 @@ fn search_sized(t: Table, work: &mut [u8], trace: &mut [u8], k: usize) -> Verdic
 }
 
 // The search of a valid table.
-fn search_valid(t: Table, work: &mut [u8], trace: &mut [u8]) -> Result<Verdict, Refusal>
-    requires { table_fault t ≡ 0 }
-    ensures { Search (columns (slots_in work.old)) (slots_in work.old) (spaces_refusal (slots_in work.old) trace.old) t work.old work.new trace.old trace.new (figures result) }
+fn search_valid(valid: Valid, work: &mut [u8], trace: &mut [u8]) -> Result<Verdict, Refusal>
+    ensures { Search (columns (slots_in work.old)) (slots_in work.old) (spaces_refusal (slots_in work.old) trace.old) valid.table work.old work.new trace.old trace.new (figures result) }
 {
     let k = slots_in(work.len());
     if k == 0 {
@@ -88,7 +86,7 @@ fn search_valid(t: Table, work: &mut [u8], trace: &mut [u8]) -> Result<Verdict, 
     if trace.len() < k {
         return Err(Refusal::ShortTrace);
     }
-    Ok(search_sized(t, work, trace, k))
+    Ok(search_sized(valid.table, work, trace, k))
 }
 
 // The search of a table.
@@ -96,7 +94,7 @@ pub fn search_table(t: Table, work: &mut [u8], trace: &mut [u8]) -> Result<Verdi
     ensures { TableSearch t work.old work.new trace.old trace.new (figures result) }
 {
     t.check()?;
-    search_valid(t, work, trace)
+    search_valid(Valid { table: t }, work, trace)
 }
 
 // The search of a sheet's table.
@@ -104,5 +102,5 @@ pub fn search_sheet(sheet: &[u8], work: &mut [u8], trace: &mut [u8]) -> Result<V
     ensures { SheetSearch sheet.now work.old work.new trace.old trace.new (figures result) }
 {
     let t = tasks::read_sheet(sheet)?;
-    search_valid(t, work, trace)
+    search_valid(Valid { table: t }, work, trace)
 }

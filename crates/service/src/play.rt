@@ -1,19 +1,18 @@
 // The replay of a list, with the totals of each task.
 ghost use Rattle.std.specs.Prelude.{◌≡◌, ◌≤◌, length};
 ghost use Rattle.tasks.specs.Replay.{replay_tick};
-ghost use Rattle.tasks.specs.Table.{table_fault};
 ghost use Rattle.service.specs.Totals.{account_of, Balanced};
 
 use crate::totals::{Account, account_of, named, raised};
-use tasks::{Outcome, Refusal, ReplayAnswer, State, Table};
+use tasks::{Outcome, Refusal, ReplayAnswer, State, Table, Valid};
 
 // The masks of a valid table played from the start state, up to the first miss or refusal. Every state on the way is proper, so of a
 // tick's refusals
 // only that of the mask is asked for.
-fn play(t: Table, masks: &[u8]) -> Account
-    requires { table_fault t ≡ 0 }
-    ensures { result ≡ account_of t masks.now }
+fn play(valid: Valid, masks: &[u8]) -> Account
+    ensures { result ≡ account_of valid.table masks.now }
 {
+    let t = valid.table;
     let mut s = State::start();
     let mut releases = [0u64; 8];
     let mut ran = [0u64; 8];
@@ -46,5 +45,5 @@ pub fn service(t: Table, masks: &[u8]) -> Account
         let none = [0u64; 8];
         return account_of(ReplayAnswer::Refused(why, 0), State::start(), none, none);
     }
-    play(t, masks)
+    play(Valid { table: t }, masks)
 }

@@ -12,6 +12,7 @@ mod state;
 mod table;
 mod tick;
 mod ticker;
+mod valid;
 mod words;
 mod writer;
 
@@ -31,4 +32,5 @@ pub use writer::write_sheet;
 pub use slack::tight;
 pub use state::has_bit;
 pub use ticker::{Prepared, Ticker};
+pub use valid::Valid;
 pub use words::{gap_in, misses, work_in};

@@ -1,12 +1,12 @@
 // The replay of a release list, one mask a tick, from the start state, and the play of a list from any state.
 ghost use Rattle.std.specs.Prelude.{◌≡◌, ◌≤◌, false, length};
-ghost use Rattle.tasks.specs.Table.{table_fault};
 ghost use Rattle.tasks.specs.State.{improper};
 ghost use Rattle.tasks.specs.Replay.{played, replayed, played_from, replay_tick};
 
 use crate::refusal::Refusal;
 use crate::state::State;
 use crate::table::Table;
+use crate::valid::Valid;
 
 // How a played list ended: kept, or missed at the tick of that number, the first being 1.
 #[derive(Clone, Copy, Debug, PartialEq, Eq)]
@@ -33,10 +33,11 @@ pub struct Replayed {
 // The masks of a valid table played from a proper state, up to the first miss or refusal; later masks are not read. Every state on the
 // way is proper, so of a
 // tick's refusals only that of the mask is asked for.
-fn play(t: Table, first: State, masks: &[u8]) -> Replayed
-    requires { (table_fault t ≡ 0) × (improper t first ≡ false) }
-    ensures { result ≡ played t first 0 masks.now }
+fn play(valid: Valid, first: State, masks: &[u8]) -> Replayed
+    requires { improper valid.table first ≡ false }
+    ensures { result ≡ played valid.table first 0 masks.now }
 {
+    let t = valid.table;
     let mut s = first;
     for (i, &mask) in masks.iter().enumerate() {
         if s.illegal(t, mask) {
@@ -79,7 +80,7 @@ pub fn play_on(t: Table, s: State, masks: &[u8]) -> Replayed
             state: s,
         };
     }
-    play(t, s, masks)
+    play(Valid { table: t }, s, masks)
 }
 
 // The replay of a list, for any table: a bad table is refused before the first tick, with the start state.

@@ -13,10 +13,10 @@ returns-in_err-t c =
     let r : c.from_residual.result ≡ Err c.in_err-t.field-0.0 = search rules in
     rw r (judged_refused _ (sheet_fault a.file.now a.sheet.now (sym c.read_sheet.ensures ∙ c.in_err-t.was)))
 
-pub closed_valid-requires : goal.closed_valid-requires
-closed_valid-requires c =
+pub invariant_of-closed_valid : goal.invariant_of-closed_valid
+invariant_of-closed_valid c =
     let known = c.type_inv.sheet in
-    read_valid c.args.sheet.now (λ i. omega (arith, known i)) _ (sym c.read_sheet.ensures ∙ c.in_ok-t.was)
+    record { sound = read_valid c.args.sheet.now (λ i. omega (arith, known i)) _ (sym c.read_sheet.ensures ∙ c.in_ok-t.was) }
 
 pub returns : goal.returns
 returns c =

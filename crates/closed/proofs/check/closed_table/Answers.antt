@@ -13,8 +13,8 @@ returns-in_err-check c =
     let r : c.from_residual.result ≡ Err c.in_err-check.field-0.0 = search rules in
     rw r (judged_refused _ (table_fault_lem a.file.now a.t (sym c.check.ensures ∙ c.in_err-check.was)))
 
-pub closed_valid-requires : goal.closed_valid-requires
-closed_valid-requires c = (accepted_unless (table_fault c.args.t) tt (sym c.check.ensures ∙ c.in_ok-check.was)).0
+pub invariant_of-closed_valid : goal.invariant_of-closed_valid
+invariant_of-closed_valid c = record { sound = (accepted_unless (table_fault c.args.t) tt (sym c.check.ensures ∙ c.in_ok-check.was)).0 }
 
 pub returns : goal.returns
 returns c =

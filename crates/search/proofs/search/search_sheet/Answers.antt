@@ -9,10 +9,10 @@ use Rattle.search.specs.Claim.{slots_in}
 use Rattle.search.proofs.ClaimLaws.{sheet_fault, sheet_read, refused_search}
 use Rattle.search.proofs.search.search_sheet.Goals as goal
 
-pub search_valid-requires : goal.search_valid-requires
-search_valid-requires c =
+pub invariant_of-search_valid : goal.invariant_of-search_valid
+invariant_of-search_valid c =
     let known = c.type_inv.sheet in
-    read_valid c.args.sheet.now (λ i. omega (arith, known i)) c.in_ok-t.t (sym c.read_sheet.ensures ∙ c.in_ok-t.was)
+    record { sound = read_valid c.args.sheet.now (λ i. omega (arith, known i)) c.in_ok-t.t (sym c.read_sheet.ensures ∙ c.in_ok-t.was) }
 
 pub returns-in_err-t : goal.returns-in_err-t
 returns-in_err-t c =

@@ -10,8 +10,8 @@ use Rattle.search.specs.Claim.{slots_in}
 use Rattle.search.proofs.ClaimLaws.{table_fault_lem, table_valid, refused_search}
 use Rattle.search.proofs.search.search_table.Goals as goal
 
-pub search_valid-requires : goal.search_valid-requires
-search_valid-requires c = (accepted_unless (table_fault c.args.t) tt (sym c.check.ensures ∙ c.in_ok-check.was)).0
+pub invariant_of-search_valid : goal.invariant_of-search_valid
+invariant_of-search_valid c = record { sound = (accepted_unless (table_fault c.args.t) tt (sym c.check.ensures ∙ c.in_ok-check.was)).0 }
 
 pub returns-in_err-check : goal.returns-in_err-check
 returns-in_err-check c =

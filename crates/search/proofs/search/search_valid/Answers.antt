@@ -25,7 +25,7 @@ search_sized-requires c =
     let a = c.args in
     let ne = c.if-k-eq0.false in
     record {
-      valid = c.requires;
+      valid = a.valid.sound;
       is = slots_is a.work.now k.ensures;
       some = omega arith;
       long = c.if-trace-k.false;

@@ -12,7 +12,7 @@ raised-more-requires c = (playing_room _ _ c.loop-i.invariant c.loop-i-test.true
 pub returns-then-illegal : goal.returns-then-illegal
 returns-then-illegal c =
     c.account_of.ensures
-    ∙ playing_refused _ _ c.requires c.loop-i.invariant c.loop-i-test.true (sym c.illegal.ensures ∙ c.if-illegal.true)
+    ∙ playing_refused _ _ c.args.valid.sound c.loop-i.invariant c.loop-i-test.true (sym c.illegal.ensures ∙ c.if-illegal.true)
 
 pub raised-longer-requires : goal.raised-longer-requires
 raised-longer-requires c = (playing_room _ _ c.loop-i.invariant c.loop-i-test.true (search rules)).1
@@ -20,15 +20,15 @@ raised-longer-requires c = (playing_room _ _ c.loop-i.invariant c.loop-i-test.tr
 pub returns-then-missed : goal.returns-then-missed
 returns-then-missed c =
     c.account_of-then-missed.ensures
-    ∙ playing_missed _ _ c.requires c.loop-i.invariant c.loop-i-test.true (sym c.illegal.ensures ∙ c.if-illegal.false)
+    ∙ playing_missed _ _ c.args.valid.sound c.loop-i.invariant c.loop-i-test.true (sym c.illegal.ensures ∙ c.if-illegal.false)
     c.named.ensures c.raised-more.ensures c.release-released.ensures c.choose-run.ensures c.raised-longer.ensures c.run-next.ensures
     (sym c.missed.ensures ∙ c.if-missed.true)
 
 pub loop-i-preserved : goal.loop-i-preserved
 loop-i-preserved c =
-    playing_next _ _ c.requires c.loop-i.invariant c.loop-i-test.true (sym c.illegal.ensures ∙ c.if-illegal.false)
+    playing_next _ _ c.args.valid.sound c.loop-i.invariant c.loop-i-test.true (sym c.illegal.ensures ∙ c.if-illegal.false)
     c.named.ensures c.raised-more.ensures c.release-released.ensures c.choose-run.ensures c.raised-longer.ensures c.run-next.ensures
     (sym c.missed.ensures ∙ c.if-missed.false)
 
 pub returns : goal.returns
-returns c = c.account_of-2.ensures ∙ playing_kept _ _ c.requires c.loop-i.invariant c.loop-i-test.false
+returns c = c.account_of-2.ensures ∙ playing_kept _ _ c.args.valid.sound c.loop-i.invariant c.loop-i-test.false

@@ -18,8 +18,8 @@ returns-in-Err c =
     ∙ rw c.start.ensures
     (ap (λ r. account_from (record { answer = Refused r 0; state = start }) (eight (λ i. 0)) (eight (λ i. 0))) (sym f.1) ∙ no_totals a.t a.masks.now f.0))
 
-pub play-requires : goal.play-requires
-play-requires c = (accepted_unless (table_fault c.args.t) tt (sym c.check.ensures ∙ c.in_default.is)).0
+pub invariant_of-play : goal.invariant_of-play
+invariant_of-play c = record { sound = (accepted_unless (table_fault c.args.t) tt (sym c.check.ensures ∙ c.in_default.is)).0 }
 
 pub returns : goal.returns
 returns c = account_told c.args.t c.args.masks.now c.play.ensures

@@ -7,20 +7,20 @@ pub returns-then-illegal : goal.returns-then-illegal
 returns-then-illegal c =
     sym
     (c.loop-i.invariant.1
-    ∙ played_refused c.args.t c.requires.0 c.loop-i.s c.loop-i.invariant.0 c.args.masks.now c.loop-i.i (omega arith) (sym c.illegal.ensures ∙ c.if-illegal.true))
+    ∙ played_refused c.args.valid.table c.args.valid.sound c.loop-i.s c.loop-i.invariant.0 c.args.masks.now c.loop-i.i (omega arith) (sym c.illegal.ensures ∙ c.if-illegal.true))
 
 pub returns-then-missed : goal.returns-then-missed
 returns-then-missed c =
     let legal = sym c.illegal.ensures ∙ c.if-illegal.false in
     sym
     (c.loop-i.invariant.1
-    ∙ played_missed c.args.t c.requires.0 c.loop-i.s c.loop-i.invariant.0 c.args.masks.now c.loop-i.i (omega arith) legal c.release-released.ensures c.choose-run.ensures c.run-next.ensures (sym c.missed.ensures ∙ c.if-missed.true))
+    ∙ played_missed c.args.valid.table c.args.valid.sound c.loop-i.s c.loop-i.invariant.0 c.args.masks.now c.loop-i.i (omega arith) legal c.release-released.ensures c.choose-run.ensures c.run-next.ensures (sym c.missed.ensures ∙ c.if-missed.true))
 
 pub loop-i-preserved : goal.loop-i-preserved
 loop-i-preserved c =
     let legal = sym c.illegal.ensures ∙ c.if-illegal.false in
-    let next = played_next c.args.t c.requires.0 c.loop-i.s c.loop-i.invariant.0 c.args.masks.now c.loop-i.i (omega arith) legal c.release-released.ensures c.choose-run.ensures c.run-next.ensures (sym c.missed.ensures ∙ c.if-missed.false) in
+    let next = played_next c.args.valid.table c.args.valid.sound c.loop-i.s c.loop-i.invariant.0 c.args.masks.now c.loop-i.i (omega arith) legal c.release-released.ensures c.choose-run.ensures c.run-next.ensures (sym c.missed.ensures ∙ c.if-missed.false) in
     (next.0, c.loop-i.invariant.1 ∙ next.1)
 
 pub returns : goal.returns
-returns c = sym (c.loop-i.invariant.1 ∙ played_end c.args.t c.loop-i.s c.args.masks.now c.loop-i.i (omega arith))
+returns c = sym (c.loop-i.invariant.1 ∙ played_end c.args.valid.table c.loop-i.s c.args.masks.now c.loop-i.i (omega arith))

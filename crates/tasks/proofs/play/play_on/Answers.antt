@@ -18,9 +18,9 @@ returns-then-improper c =
     let valid = (accepted_unless (table_fault a.t) tt (sym c.check.ensures ∙ c.in_default.is)).0 in
     from_names a.t a.s a.masks.now (from_improper a.t a.s 0 a.masks.now valid (sym c.improper.ensures ∙ c.if-improper.true))
 
-pub play-requires : goal.play-requires
-play-requires c =
-    ((accepted_unless (table_fault c.args.t) tt (sym c.check.ensures ∙ c.in_default.is)).0, sym c.improper.ensures ∙ c.if-improper.false)
+pub invariant_of-play : goal.invariant_of-play
+invariant_of-play c =
+    record { sound = (accepted_unless (table_fault c.args.t) tt (sym c.check.ensures ∙ c.in_default.is)).0 }
 
 pub returns : goal.returns
 returns c =
