@@ -32,6 +32,7 @@ pub use writer::write_sheet;
 // are of it.
 pub use slack::tight;
 pub use state::has_bit;
+pub use table::outside;
 pub use ticker::{Prepared, Ticker};
 pub use valid::Valid;
 pub use words::{gap_in, misses, work_in};
