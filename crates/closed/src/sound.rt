@@ -45,9 +45,7 @@ fn exceeds(t: Table, v: [u16; 8]) -> bool
     if 0 < count_gap_above(t, v) {
         return true;
     }
-    let policy = t.policy;
-    let keeps = (policy == 0) | (policy == 2);
-    keeps & (t.m < count_started(t, v))
+    jobs::keeps_running(t.policy) & (t.m < count_started(t, v))
 }
 
 // Whether the state in the words is proper and no mask misses from it. A late job is tight, so where none is tight none is late.

@@ -1,7 +1,7 @@
 -- One job by its numbers (document 01, "State"): deadline D and least gap P of its task, the ticks p until the task may be released
 -- again, and
 -- the work left c.
-use Rattle.std.specs.Prelude.{ℕ, Bool, not, ◌&&◌, ◌||◌, ℤ, pos, ◌-ℤ◌, int_lt, nat_lt}
+use Rattle.std.specs.Prelude.{ℕ, Bool, not, ◌&&◌, ◌||◌, ℤ, pos, ◌-ℤ◌, int_lt, nat_lt, eqb}
 use Rattle.lists.specs.Lists.{pick}
 
 -- the age, P - p: the ticks since the release
@@ -19,6 +19,10 @@ slack deadline gap p c = time_left deadline gap p -ℤ pos c
 -- a job with c work left is late: its slack is below 0 ("One tick", step 5)
 abbrev pub late_job : ℕ → ℕ → ℕ → ℕ → Bool
 late_job deadline gap p c = nat_lt 0 c && int_lt (slack deadline gap p c) (pos 0)
+
+-- a started job keeps its processor: the policies 0 and 2
+abbrev pub keeps_running : ℕ → Bool
+keeps_running policy = eqb policy 0 || eqb policy 2
 
 -- ---- what the order goes by ("One tick", step 2)
 

@@ -1,6 +1,6 @@
 // One job: its age, the time left, the slack, whether it is late, and by what it is ordered.
 ghost use Rattle.std.specs.Prelude.{◌≡◌, nat_lt};
-ghost use Rattle.jobs.specs.Job.{age, time_left, slack, late_job, job_key, job_age, lex};
+ghost use Rattle.jobs.specs.Job.{age, time_left, slack, late_job, keeps_running, job_key, job_age, lex};
 
 // The age, P - p.
 fn age(gap: u8, p: u8) -> i16
@@ -28,6 +28,14 @@ pub fn late_job(deadline: u8, gap: u8, p: u8, c: u8) -> bool
     ensures { result ≡ late_job deadline gap p c }
 {
     (0 < c) & (slack_of(deadline, gap, p, c) < 0)
+}
+
+// Whether a started job keeps its processor under the policy.
+#[inline]
+pub fn keeps_running(policy: u8) -> bool
+    ensures { result ≡ keeps_running policy }
+{
+    (policy == 0) | (policy == 2)
 }
 
 // The key of a job: of two jobs that with the smaller one goes first, under any policy.

@@ -5,5 +5,5 @@
 mod job;
 mod place;
 
-pub use job::{goes_before, job_age, job_key, late_job, slack_of};
+pub use job::{goes_before, job_age, job_key, keeps_running, late_job, slack_of};
 pub use place::{base_of, gap_mask, moved, place_of, work_mask};

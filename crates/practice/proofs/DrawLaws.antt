@@ -10,7 +10,8 @@ use borrow.Author.Tests.{ltb-true, ltb-false}
 use Rattle.lists.specs.Lists.{pick, front}
 use Rattle.lists.proofs.Bools.{by_bool}
 use Rattle.lists.proofs.Fill.{front_more, front_eight}
-use Rattle.tasks.specs.Sheet.{empty_table}
+use Rattle.tasks.specs.Sheet.{empty_table, with_task}
+use Rattle.tasks.specs.declared.sheet.Task.{Task}
 use Rattle.tasks.specs.declared.table.Table.{Table}
 use Rattle.tasks.proofs.Tables.{FitTask}
 use Rattle.practice.specs.Practice.{drawn, draw, gap_drawn, deadline_drawn, work_drawn, practice_table}
@@ -55,13 +56,13 @@ pub record Drawing (policy m n seed : ℕ) (t : Table) (s i : ℕ) : Type 0 wher
   pub last : s ≡ draw (3 * i) seed
 
 -- the three draws of a task, and the numbers that they give
-pub record TaskDrawn (s first second third C D P : ℕ) : Type 0 where
+pub record TaskDrawn (s first second third : ℕ) (task : Task) : Type 0 where
   pub one : first ≡ drawn s
   pub two : second ≡ drawn first
   pub three : third ≡ drawn second
-  pub gap : P ≡ 1 + first % 200
-  pub deadline : D ≡ 1 + second % P
-  pub work : C ≡ 1 + third % D
+  pub gap : task.gap ≡ 1 + first % 200
+  pub deadline : task.deadline ≡ 1 + second % task.gap
+  pub work : task.work ≡ 1 + third % task.deadline
 
 module _ {policy m n seed : ℕ} where
   pub drawing_start : Drawing policy m n seed (empty_table policy m n) seed 0
@@ -69,7 +70,7 @@ module _ {policy m n seed : ℕ} where
   drawing_start = record { head = (refl, refl, refl); work = refl; deadline = refl; gap = refl; last = refl }
 
   -- task i, of the draws 3 i + 1, 3 i + 2 and 3 i + 3
-  module _ {t : Table} {s i first second third C D P : ℕ} (w : Drawing policy m n seed t s i) (d : TaskDrawn s first second third C D P) where
+  module _ {t : Table} {s i first second third : ℕ} {task : Task} (w : Drawing policy m n seed t s i) (d : TaskDrawn s first second third task) where
     first_is : first ≡ draw (3 * i + 1) seed
     first_is = d.one ∙ ap drawn w.last ∙ draw_next (3 * i) seed
 
@@ -83,15 +84,15 @@ module _ {policy m n seed : ℕ} where
         let e : 3 * i + 2 + 1 ≡ 3 * i + 3 = omega arith in
         d.three ∙ ap drawn second_is ∙ draw_next (3 * i + 2) seed ∙ ap (λ k. draw k seed) e
 
-    gap_is : P ≡ gap_drawn i seed
+    gap_is : task.gap ≡ gap_drawn i seed
     unfolding gap_drawn
     gap_is = d.gap ∙ ap (λ x. 1 + x % 200) first_is
 
-    deadline_is : D ≡ deadline_drawn i seed
+    deadline_is : task.deadline ≡ deadline_drawn i seed
     unfolding deadline_drawn
     deadline_is = d.deadline ∙ ap₂ (λ x g. 1 + x % g) second_is gap_is
 
-    work_is : C ≡ work_drawn i seed
+    work_is : task.work ≡ work_drawn i seed
     unfolding work_drawn
     work_is = d.work ∙ ap₂ (λ x g. 1 + x % g) third_is deadline_is
 
@@ -99,11 +100,8 @@ module _ {policy m n seed : ℕ} where
     set_more f e q h = ap₂ (λ l x. set l i x) e q ∙ front_more f i h
 
     -- with the numbers of task i set
-    pub drawing_step :
-        i < 8
-        → Drawing policy m n seed
-        (record { policy = t.policy; m = t.m; n = t.n; work = set t.work i C; deadline = set t.deadline i D; gap = set t.gap i P })
-        third (i + 1)
+    pub drawing_step : i < 8 → Drawing policy m n seed (with_task t i task) third (i + 1)
+    unfolding with_task
     drawing_step h =
         let e : 3 * i + 3 ≡ 3 * (i + 1) = omega arith in
         record {

@@ -9,23 +9,14 @@ use tasks::{Refusal, Table};
 fn draw_table(policy: u8, m: u8, n: u8, seed: u16) -> Table
     ensures { result ≡ practice_table policy m n seed }
 {
-    let mut t = Table {
-        policy,
-        m,
-        n,
-        work: [0; 8],
-        deadline: [0; 8],
-        gap: [0; 8],
-    };
+    let mut t = Table::empty(policy, m, n);
     let mut s = seed;
     for i in 0..usize::from(n.min(8)) {
         let first = drawn(s);
         let second = drawn(first);
         let third = drawn(second);
         let task = task_of(first, second, third);
-        t.work[i] = task.work;
-        t.deadline[i] = task.deadline;
-        t.gap[i] = task.gap;
+        t = t.with_task(i, task);
         s = third;
     }
     t

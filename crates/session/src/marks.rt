@@ -3,23 +3,15 @@ ghost use Rattle.std.specs.Prelude.{◌≡◌, ◌-◌, ◌<◌};
 ghost use Rattle.std.specs.Option.{unwrap_or};
 ghost use Rattle.lists.specs.Lists.{any};
 ghost use Rattle.tasks.specs.Refusals.{unless_refused};
-ghost use Rattle.tasks.specs.Table.{outside};
 ghost use Rattle.session.specs.Session.{fresh, mark_at, first_of, beyond, never_set, marked, improper_mark, improper_session};
 
-use tasks::{Refusal, State, Table};
+use tasks::{Refusal, State, Table, outside};
 
 // The present state, and marks 1 to 8: the state under each, where it is set.
 #[derive(Clone, Copy, Debug, PartialEq, Eq)]
 pub struct Session {
     pub present: State,
     pub marks: [Option<State>; 8],
-}
-
-// Whether a number is no mark's.
-fn outside(k: u8) -> bool
-    ensures { result ≡ outside k }
-{
-    !(1..=8).contains(&k)
 }
 
 // The place of mark k, or 15 where k is no mark's number.

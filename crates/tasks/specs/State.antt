@@ -1,8 +1,8 @@
 -- The state and when it is proper (document 01, "State"); its table is that of "The task table". The time left and the slack of a job
 -- are in Job.antt of `jobs`.
-use Rattle.std.specs.Prelude.{ℕ, Bool, ◌&&◌, ◌||◌, get_or, eqb, ltb, leb}
+use Rattle.std.specs.Prelude.{ℕ, Bool, ◌&&◌, ◌||◌, get_or, ltb, leb}
 use Rattle.lists.specs.Lists.{eight, count, any}
-use Rattle.jobs.specs.Job.{late_job}
+use Rattle.jobs.specs.Job.{keeps_running, late_job}
 use Rattle.tasks.specs.declared.state.State.{State}
 use Rattle.tasks.specs.declared.table.Table.{Table}
 
@@ -22,7 +22,7 @@ started t s i = ltb 0 (get_or s.c i 0) && ltb (get_or s.c i 0) (get_or t.work i 
 
 -- the policies 0 and 2
 abbrev pub not_preempted : Table → Bool
-not_preempted t = eqb t.policy 0 || eqb t.policy 2
+not_preempted t = keeps_running t.policy
 
 -- task i's job keeps its processor: it is started, under a policy that does not preempt
 unfoldable pub keeps : Table → State → ℕ → Bool

@@ -27,10 +27,12 @@ pub use table::Table;
 pub use tick::{Step, Ticked};
 pub use writer::write_sheet;
 
-// The inner interface, for the layers above: it takes any table, state and words, and refuses nothing. `Table::ticker`, `State::words`,
-// `State::of_words` and the steps of a tick (`State::illegal`, `release`, `choose`, `run` and `missed`) are of it.
+// The inner interface, for the layers above: it takes any table, state and words, and refuses nothing. `Table::ticker`, `Table::empty`,
+// `Table::with_task`, `State::words`, `State::of_words` and the steps of a tick (`State::illegal`, `release`, `choose`, `run` and `missed`)
+// are of it.
 pub use slack::tight;
 pub use state::has_bit;
+pub use table::outside;
 pub use ticker::{Prepared, Ticker};
 pub use valid::Valid;
 pub use words::{gap_in, misses, work_in};

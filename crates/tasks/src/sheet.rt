@@ -14,16 +14,31 @@ pub struct Task {
     pub gap: u8,
 }
 
-fn empty_table(policy: u8, m: u8, n: u8) -> Table
-    ensures { result ≡ empty_table policy m n }
-{
-    Table {
-        policy,
-        m,
-        n,
-        work: [0; 8],
-        deadline: [0; 8],
-        gap: [0; 8],
+impl Table {
+    // A table of n tasks before any is set.
+    pub fn empty(policy: u8, m: u8, n: u8) -> Table
+        ensures { result ≡ empty_table policy m n }
+    {
+        Table {
+            policy,
+            m,
+            n,
+            work: [0; 8],
+            deadline: [0; 8],
+            gap: [0; 8],
+        }
+    }
+
+    // The table with the numbers of task i set.
+    pub fn with_task(self, i: usize, task: Task) -> Table
+        requires { i < 8 }
+        ensures { result ≡ with_task self i task }
+    {
+        let mut next = self;
+        next.work[i] = task.work;
+        next.deadline[i] = task.deadline;
+        next.gap[i] = task.gap;
+        next
     }
 }
 
@@ -68,28 +83,16 @@ fn read_task(s: &[u8], at: usize) -> Result<(Task, usize), Refusal>
     task_of(work, deadline, gap, next)
 }
 
-// The table with the numbers of task i set.
-fn with_task(t: Table, i: usize, task: Task) -> Table
-    requires { i < 8 }
-    ensures { result ≡ with_task t i task }
-{
-    let mut next = t;
-    next.work[i] = task.work;
-    next.deadline[i] = task.deadline;
-    next.gap[i] = task.gap;
-    next
-}
-
 // The tasks, and then the end.
 fn read_tasks(s: &[u8], from: usize, policy: u8, m: u8, n: u8) -> Result<Table, Refusal>
     requires { n ≤ 8 }
     ensures { result ≡ from_tasks s.now policy m n from }
 {
-    let mut t = empty_table(policy, m, n);
+    let mut t = Table::empty(policy, m, n);
     let mut at = from;
     for i in 0..usize::from(n) {
         let (task, next) = read_task(s, at)?;
-        t = with_task(t, i, task);
+        t = t.with_task(i, task);
         at = next;
     }
     if at < s.len() {

@@ -95,8 +95,7 @@ impl State {
         requires { i < 8 }
         ensures { result ≡ keeps t self i }
     {
-        let policy = t.policy;
-        ((policy == 0) | (policy == 2)) & self.started(t, i)
+        jobs::keeps_running(t.policy) & self.started(t, i)
     }
 
     // How many jobs keep a processor.

@@ -22,10 +22,10 @@ pub struct Table {
 }
 
 // Whether a number is outside 1 to 8.
-fn outside(x: u8) -> bool
+pub fn outside(x: u8) -> bool
     ensures { result ≡ outside x }
 {
-    (x < 1) | (8 < x)
+    !(1..=8).contains(&x)
 }
 
 // Whether the numbers of a task break 1 ≤ C ≤ D ≤ P ≤ 200.

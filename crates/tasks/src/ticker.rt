@@ -139,7 +139,7 @@ impl Ticker {
 fn kept(t: Table) -> [u16; 8]
     ensures { result ≡ eight (kept_at t) }
 {
-    let stays = (t.policy == 0) | (t.policy == 2);
+    let stays = jobs::keeps_running(t.policy);
     array::from_fn(|i| if stays { u16::from(t.work[i]) } else { 0 })
 }
 

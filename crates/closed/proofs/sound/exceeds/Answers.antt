@@ -16,4 +16,5 @@ returns-then-count_gap_above-gt0 c =
 pub returns : goal.returns
 returns c =
     let a = c.args in
-    exceeds_kept a.t (state_of a.v) c.count_work_above.ensures c.if-count_work_above-gt0.false c.count_gap_above.ensures c.if-count_gap_above-gt0.false c.count_started.ensures
+    rw c.keeps_running.ensures
+    (exceeds_kept a.t (state_of a.v) c.count_work_above.ensures c.if-count_work_above-gt0.false c.count_gap_above.ensures c.if-count_gap_above-gt0.false c.count_started.ensures)

@@ -44,7 +44,7 @@ tasks_refused n i t s at r h e =
     tasks_left n i t s at h ∙ ap (λ r. and_then r (λ task next. tasks_from (n - (i + 1)) (i + 1) (with_task t i task) s next)) e
 
 pub loop-i-init : goal.loop-i-init
-loop-i-init c = let a = c.args in let e : a.n ≡ a.n - 0 = omega arith in ap (λ k. tasks_from k 0 c.empty_table-t.result a.s.now a.from) e
+loop-i-init c = let a = c.args in let e : a.n ≡ a.n - 0 = omega arith in ap (λ k. tasks_from k 0 c.empty-t.result a.s.now a.from) e
 
 pub returns-in_err-task : goal.returns-in_err-task
 unfolding from_tasks
@@ -52,7 +52,7 @@ returns-in_err-task c =
     let a = c.args in
     let e = sym c.read_task.ensures ∙ c.in_err-task.was in
     let h : c.loop-i.i < a.n = omega arith in
-    let f = rw c.empty_table-t.ensures at (c.loop-i.invariant ∙ tasks_refused a.n c.loop-i.i _ _ _ _ h e) in
+    let f = rw c.empty-t.ensures at (c.loop-i.invariant ∙ tasks_refused a.n c.loop-i.i _ _ _ _ h e) in
     rw f (search rules)
 
 pub loop-i-preserved : goal.loop-i-preserved
@@ -66,10 +66,10 @@ pub returns-then-at-s : goal.returns-then-at-s
 unfolding from_tasks
 returns-then-at-s c =
     let a = c.args in
-    sym (rw c.empty_table-t.ensures at (c.loop-i.invariant ∙ tasks_over a.n c.loop-i.i c.loop-i.t a.s.now c.loop-i.at (omega arith) c.if-at-s.true))
+    sym (rw c.empty-t.ensures at (c.loop-i.invariant ∙ tasks_over a.n c.loop-i.i c.loop-i.t a.s.now c.loop-i.at (omega arith) c.if-at-s.true))
 
 pub returns : goal.returns
 unfolding from_tasks
 returns c =
     let a = c.args in
-    sym (rw c.empty_table-t.ensures at (c.loop-i.invariant ∙ tasks_done a.n c.loop-i.i c.loop-i.t a.s.now c.loop-i.at (omega arith) c.if-at-s.false))
+    sym (rw c.empty-t.ensures at (c.loop-i.invariant ∙ tasks_done a.n c.loop-i.i c.loop-i.t a.s.now c.loop-i.at (omega arith) c.if-at-s.false))

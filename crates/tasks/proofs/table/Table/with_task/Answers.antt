@@ -1,7 +1,7 @@
 -- By computation. Assumes nothing.
 use Rattle.tasks.specs.Sheet.{with_task}
 use borrow.Author.Rules.{rules}
-use Rattle.tasks.proofs.sheet.with_task.Goals as goal
+use Rattle.tasks.proofs.table.Table.with_task.Goals as goal
 
 pub returns : goal.returns
 unfolding with_task
