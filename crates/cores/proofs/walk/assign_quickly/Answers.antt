@@ -28,15 +28,5 @@ loop-walk-init c = (
   c.ranks-ranks.ensures,
 )
 
-pub assign_next-walk-requires : goal.assign_next-walk-requires
-assign_next-walk-requires c =
-    let l = c.loop-walk in
-    (l.invariant.2, l.invariant.0, omega (arith, c.loop-walk-test.true), omega (arith, c.loop-walk-test.true, l.invariant.1))
-
-pub loop-walk-preserved : goal.loop-walk-preserved
-loop-walk-preserved c =
-    let l = c.loop-walk in
-    (c.assign_next-walk.ensures.0, l.invariant.1, l.invariant.2)
-
 pub returns : goal.returns
 returns c = walk_full _ _ c.loop-walk.invariant.0 (omega (arith, c.loop-walk-test.false))

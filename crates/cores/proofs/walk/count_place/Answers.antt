@@ -4,9 +4,6 @@ use Rattle.cores.proofs.RankLaws.{rank_turn, rank_room}
 use native.Mathlib.Omega.{arith}
 use Rattle.cores.proofs.walk.count_place.Goals as goal
 
-pub loop-j-init : goal.loop-j-init
-loop-j-init c = filled_start refl
-
 pub overflow_add-out : goal.overflow_add-out
 overflow_add-out c =
     let a = c.args in

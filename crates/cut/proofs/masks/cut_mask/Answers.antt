@@ -6,8 +6,5 @@ use Rattle.cut.proofs.masks.cut_mask.Goals as goal
 pub returns-then-k-ge8 : goal.returns-then-k-ge8
 returns-then-k-ge8 c = mask_whole c.args.k c.args.mask (search rules) c.if-k-ge8.true
 
-pub nonzero_rem-result : goal.nonzero_rem-result
-nonzero_rem-result c = unit_some c.args.k c.if-k-ge8.false
-
 pub returns : goal.returns
 returns c = mask_low c.args.k c.args.mask c.if-k-ge8.false
