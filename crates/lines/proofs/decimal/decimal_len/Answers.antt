@@ -6,12 +6,6 @@ use Rattle.lines.proofs.decimal.decimal_len.Goals as goal
 pub loop-rest-init : goal.loop-rest-init
 loop-rest-init c = (refl, decimal_word c.args.x (omega arith))
 
-pub overflow_add-n : goal.overflow_add-n
-overflow_add-n c = omega (arith, decimal_some c.loop-rest.rest)
-
-pub loop-rest-smaller : goal.loop-rest-smaller
-loop-rest-smaller c = omega arith
-
 pub loop-rest-preserved : goal.loop-rest-preserved
 loop-rest-preserved c = (omega (arith, decimal_longer c.loop-rest.rest c.loop-rest-test.true), c.loop-rest.invariant.1)
 

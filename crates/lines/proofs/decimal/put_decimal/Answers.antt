@@ -8,9 +8,6 @@ use Rattle.lines.proofs.Places.{sets_last}
 use native.Mathlib.Omega.{arith}
 use Rattle.lines.proofs.decimal.put_decimal.Goals as goal
 
-pub overflow_add-end : goal.overflow_add-end
-overflow_add-end c = let e = c.decimal_len.ensures.0 in let p = c.requires in omega arith
-
 pub overflow_sub-i : goal.overflow_sub-i
 overflow_sub-i c = omega (arith, c.decimal_len.ensures.0, decimal_some c.args.x)
 
@@ -21,16 +18,10 @@ loop-rest-init c =
     let some = decimal_some c.args.x in
     (refl, omega arith, refl, omega arith)
 
-pub bounds-out-i : goal.bounds-out-i
-bounds-out-i c = c.loop-rest.invariant.3
-
 pub overflow_sub-i-in-loop-rest : goal.overflow_sub-i-in-loop-rest
 overflow_sub-i-in-loop-rest c =
     let rest = c.loop-rest.rest in
     omega (arith, c.loop-rest.invariant.1, decimal_longer rest c.loop-rest-test.true, decimal_some (rest / 10))
-
-pub loop-rest-smaller : goal.loop-rest-smaller
-loop-rest-smaller c = omega arith
 
 pub loop-rest-preserved : goal.loop-rest-preserved
 loop-rest-preserved c =
@@ -46,12 +37,6 @@ loop-rest-preserved c =
       simp length-set l.invariant.2,
       simp length-set (let h = l.invariant.3 in omega arith),
     )
-
-pub bounds-out-i-2 : goal.bounds-out-i-2
-bounds-out-i-2 c = c.loop-rest.invariant.3
-
-pub shape_of-out : goal.shape_of-out
-shape_of-out c = simp length-set c.loop-rest.invariant.2
 
 pub returns : goal.returns
 returns c =

@@ -5,17 +5,6 @@ use Rattle.lines.specs.Lines.{decimal}
 use native.Mathlib.Omega.{arith}
 use Rattle.lines.proofs.decimal.put_word.Goals as goal
 
-pub put_bytes-next-requires : goal.put_bytes-next-requires
-put_bytes-next-requires c =
-    let a = c.args in
-    storing_room a.word.now (decimal a.x) (storing_start a.out.now a.at (a.word.now ++ decimal a.x) c.requires)
-
-pub put_decimal-requires : goal.put_decimal-requires
-put_decimal-requires c =
-    let a = c.args in
-    let p = storing_start a.out.now a.at (a.word.now ++ decimal a.x) c.requires in
-    storing_left (decimal a.x) (storing_step a.word.now (decimal a.x) p c.put_bytes-next.ensures.1 c.put_bytes-next.ensures.0)
-
 pub returns : goal.returns
 returns c =
     let a = c.args in

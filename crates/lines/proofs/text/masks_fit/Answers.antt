@@ -7,9 +7,6 @@ use Rattle.lines.proofs.LineLaws.{masks_end, masks_longer}
 use native.Mathlib.Omega.{arith}
 use Rattle.lines.proofs.text.masks_fit.Goals as goal
 
-pub loop-mask-init : goal.loop-mask-init
-loop-mask-init c = refl
-
 pub returns-then-left-n : goal.returns-then-left-n
 returns-then-left-n c =
     let l = c.loop-mask in

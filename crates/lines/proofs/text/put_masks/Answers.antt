@@ -7,9 +7,6 @@ use Rattle.lines.proofs.LineLaws.{masks_turn, masks_end}
 use native.Mathlib.Omega.{arith}
 use Rattle.lines.proofs.text.put_masks.Goals as goal
 
-pub loop-mask-init : goal.loop-mask-init
-loop-mask-init c = let a = c.args in storing_start a.out.now a.from (mask_lines a.masks.now) c.requires
-
 pub put_line-at-requires : goal.put_line-at-requires
 put_line-at-requires c =
     let l = c.loop-mask in
@@ -22,9 +19,6 @@ loop-mask-preserved c =
     let p = rw (masks_turn c.args.masks.now l.mask-index (omega arith)) at l.invariant in
     let w = rw c.from.ensures at c.put_line-at.ensures in
     storing_step (line [] (get_or c.args.masks.now l.mask-index 0)) (mask_lines (drop (l.mask-index + 1) c.args.masks.now)) p w.1 w.0
-
-pub shape_of-out : goal.shape_of-out
-shape_of-out c = c.loop-mask.invariant.len
 
 pub returns : goal.returns
 returns c =

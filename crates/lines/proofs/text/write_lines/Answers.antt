@@ -30,16 +30,6 @@ whole : (a : Result Verdict Refusal) (trace : List ℕ) {masks : List ℕ} → m
 unfolding lines_of
 whole a trace e = ap (λ masks. first_line a ++ mask_lines masks) e
 
-pub put_first-next-requires : goal.put_first-next-requires
-put_first-next-requires c = omega (arith, c.if-n-out.true, c.first_len-n.ensures.0)
-
-pub put_masks-requires : goal.put_masks-requires
-put_masks-requires c =
-    let a = c.args in
-    let masks = c.masks_given-masks.result.now in
-    let p = begun a.a masks a.out.now c.first_len-n.ensures.0 c.if-n-out.true (sym c.masks_fit.ensures ∙ c.if-masks_fit.true) in
-    storing_left (mask_lines masks) (storing_step (first_line a.a) (mask_lines masks) p c.put_first-next.ensures.1 (omega (arith, c.put_first-next.ensures.0)))
-
 pub returns-then-masks_fit : goal.returns-then-masks_fit
 returns-then-masks_fit c =
     let a = c.args in

@@ -11,9 +11,3 @@ loop-i-preserved c =
     let a = c.args in
     let l = c.loop-i in
     c.put_mark.ensures ∙ marks_turn a.x l.i a.space.now l.invariant
-
-pub returns : goal.returns
-returns c =
-    let l = c.loop-i in
-    let e : l.i ≡ 8 = omega arith in
-    rw e at l.invariant

@@ -4,9 +4,6 @@ use Rattle.states.specs.Masks.{place, Stepped}
 use Rattle.states.proofs.MaskLaws.{walk_up}
 use Rattle.states.proofs.masks.MasksIterator.next.Goals as goal
 
-pub returns-clause-steps : goal.returns-clause-steps
-returns-clause-steps c = record { small = search rules; here = ap place c.in_ok-mask.was; free = refl; next = c.mask_after-self.ensures }
-
 pub returns-clause-goes : goal.returns-clause-goes
 returns-clause-goes c =
     let step : Stepped _ _ _ = record { small = search rules; here = ap place c.in_ok-mask.was; free = refl; next = c.mask_after-self.ensures } in
