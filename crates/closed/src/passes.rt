@@ -12,7 +12,7 @@ ghost use Rattle.states.specs.Bytes.{state_in};
 ghost use Rattle.closed.specs.Keeping.{class_of, landing, Due, RowOf, Between, Every, InsideIs, Given, Ready, AfterWaits, RowWaits};
 
 use crate::cells::put;
-use crate::file::gap_at;
+use crate::file::{File, gap_at};
 use crate::pending::{all_held, put_key};
 use states::{Key, Ticking, key_in, key_of, masks_of, mix, words_in};
 use tasks::{Prepared, Table, Ticker};
@@ -75,9 +75,9 @@ fn between(low: usize, high: usize, at: usize) -> bool
 }
 
 // How far the task is from its next release in state i, at most top.
-fn distance(file: &[u8], split: Split, i: usize) -> usize
-    requires { (16 * i + 16 ≤ length file.now) × (split.task < 8) }
-    ensures { result ≡ min (get_or file.now (16 * i + 2 * split.task + 1) 0) split.top }
+fn distance(file: File, split: Split, i: usize) -> usize
+    requires { (i < file.n) × (split.task < 8) }
+    ensures { result ≡ min (get_or file.entry.bytes.now (16 * i + 2 * split.task + 1) 0) split.top }
 {
     (gap_at(file, i, split.task) as usize).min(split.top)
 }
@@ -128,19 +128,18 @@ fn put_after(
 // Puts the keys of the states after the masks of state i that are due in the pass behind those that wait. How many wait then.
 fn row_pending(
     ticking: Ticking,
-    file: &[u8],
+    file: File,
     pending: &mut [u32],
     count: usize,
-    n: usize,
     split: Split,
     pass: Pass,
     i: usize,
 ) -> usize
-    requires { Given ticking.table file.now n × (0 < pass.classes) × (split.task < 8) × (i < n) × (improper ticking.table (state_in file.now i) ≡ false) × (4 * count + 1024 ≤ length pending.old) }
-    ensures { (result ≤ count + 256) × RowWaits ticking.table file.now n (RowOf ticking.table file.now split pass i) pending.old count pending.new result }
+    requires { Given ticking.table file.bytes.now file.n × (0 < pass.classes) × (split.task < 8) × (i < file.n) × (improper ticking.table (state_in file.bytes.now i) ≡ false) × (4 * count + 1024 ≤ length pending.old) }
+    ensures { (result ≤ count + 256) × RowWaits ticking.table file.entry.bytes.now file.entry.n (RowOf ticking.table file.entry.bytes.now split pass i) pending.old count pending.new result }
 {
     let ticker = ticking.ticker;
-    let v = words_in(file, i);
+    let v = words_in(file.bytes, i);
     let gap = gap_at(file, i, split.task);
     let kept = between(pass.low, pass.high, landing(split.top, gap, false));
     let released = between(pass.low, pass.high, landing(split.top, gap, true));
@@ -158,23 +157,16 @@ fn row_pending(
 
 // Whether the states after the masks of every state that are due in the pass are in the file. Their keys wait until there are many: looked
 // up one right after the other, they wait for memory together.
-fn rows_inside(
-    ticking: Ticking,
-    file: &[u8],
-    cells: &[u32],
-    n: usize,
-    split: Split,
-    pass: Pass,
-) -> bool
-    requires { Ready ticking.table file.now cells.now n × (0 < pass.classes) × (split.task < 8) }
-    ensures { InsideIs ticking.table file.now (Due ticking.table file.now split pass) result }
+fn rows_inside(ticking: Ticking, file: File, cells: &[u32], split: Split, pass: Pass) -> bool
+    requires { Ready ticking.table file.bytes.now cells.now file.n × (0 < pass.classes) × (split.task < 8) }
+    ensures { InsideIs ticking.table file.entry.bytes.now (Due ticking.table file.entry.bytes.now split pass) result }
 {
     let mut pending = [0u32; 1280];
     let mut count: usize = 0;
-    for row in 0..n {
-        count = row_pending(ticking, file, &mut pending, count, n, split, pass, row);
-        if (64 <= count) | (row + 1 == n) {
-            if !all_held(file, cells, n, &pending, count) {
+    for row in 0..file.n {
+        count = row_pending(ticking, file, &mut pending, count, split, pass, row);
+        if (64 <= count) | (row + 1 == file.n) {
+            if !all_held(file, cells, &pending, count) {
                 return false;
             }
             count = 0;
@@ -184,36 +176,36 @@ fn rows_inside(
 }
 
 // Puts state i into the cells, where the pass may look it up.
-fn put_due(file: &[u8], cells: &mut [u32], n: usize, split: Split, pass: Pass, i: usize)
-    requires { (16 * n ≤ length file.now) × (256 < length cells.old) × (0 < pass.classes) × (split.task < 8) × (i < n) }
+fn put_due(file: File, cells: &mut [u32], split: Split, pass: Pass, i: usize)
+    requires { (256 < length cells.old) × (0 < pass.classes) × (split.task < 8) × (i < file.n) }
     ensures { length cells.new ≡ length cells.old }
 {
     if between(pass.low, pass.high, distance(file, split, i)) {
-        let key = key_in(file, i);
+        let key = key_in(file.bytes, i);
         if class_of(key, pass.classes) == pass.class {
-            put(file, cells, n, key, i);
+            put(file, cells, key, i);
         }
     }
 }
 
 // Fills the cells for a pass.
-fn index_pass(file: &[u8], cells: &mut [u32], n: usize, split: Split, pass: Pass)
-    requires { (16 * n ≤ length file.now) × (256 < length cells.old) × (0 < pass.classes) × (split.task < 8) }
+fn index_pass(file: File, cells: &mut [u32], split: Split, pass: Pass)
+    requires { (256 < length cells.old) × (0 < pass.classes) × (split.task < 8) }
     ensures { length cells.new ≡ length cells.old }
 {
     cells.fill(0);
-    for i in 0..n {
-        put_due(file, cells, n, split, pass, i);
+    for i in 0..file.n {
+        put_due(file, cells, split, pass, i);
     }
 }
 
 // How many of the file's states are so far from the task's next release.
-fn count_between(file: &[u8], n: usize, split: Split, low: usize, high: usize) -> usize
-    requires { (16 * n ≤ length file.now) × (split.task < 8) }
-    ensures { result ≤ n }
+fn count_between(file: File, split: Split, low: usize, high: usize) -> usize
+    requires { (split.task < 8) }
+    ensures { result ≤ file.entry.n }
 {
     let mut count: usize = 0;
-    for i in 0..n {
+    for i in 0..file.n {
         count += between(low, high, distance(file, split, i)) as usize;
     }
     count
@@ -222,17 +214,16 @@ fn count_between(file: &[u8], n: usize, split: Split, low: usize, high: usize) -
 // The passes of the states so far from the task's next release, one a class.
 fn band_inside(
     ticking: Ticking,
-    file: &[u8],
+    file: File,
     cells: &mut [u32],
-    n: usize,
     split: Split,
     low: usize,
     high: usize,
 ) -> bool
-    requires { Ready ticking.table file.now cells.old n × (split.task < 8) }
-    ensures { (length cells.new ≡ length cells.old) × InsideIs ticking.table file.now (Between file.now split low high) result }
+    requires { Ready ticking.table file.bytes.now cells.old file.n × (split.task < 8) }
+    ensures { (length cells.new ≡ length cells.old) × InsideIs ticking.table file.entry.bytes.now (Between file.entry.bytes.now split low high) result }
 {
-    let classes = count_between(file, n, split, low, high) / 229376 + 1;
+    let classes = count_between(file, split, low, high) / 229376 + 1;
     for class in 0..classes {
         let pass = Pass {
             low,
@@ -240,8 +231,8 @@ fn band_inside(
             classes,
             class,
         };
-        index_pass(file, cells, n, split, pass);
-        if !rows_inside(ticking, file, cells, n, split, pass) {
+        index_pass(file, cells, split, pass);
+        if !rows_inside(ticking, file, cells, split, pass) {
             return false;
         }
     }
@@ -261,20 +252,14 @@ fn width(top: usize, n: usize) -> usize
 }
 
 // Whether every legal mask of every state leads to a state of the file.
-pub(crate) fn all_inside(
-    ticking: Ticking,
-    file: &[u8],
-    cells: &mut [u32],
-    n: usize,
-    split: Split,
-) -> bool
-    requires { Ready ticking.table file.now cells.old n × (split.task < 8) × (split.top < 256) }
-    ensures { InsideIs ticking.table file.now Every result }
+pub(crate) fn all_inside(ticking: Ticking, file: File, cells: &mut [u32], split: Split) -> bool
+    requires { Ready ticking.table file.bytes.now cells.old file.n × (split.task < 8) × (split.top < 256) }
+    ensures { InsideIs ticking.table file.entry.bytes.now Every result }
 {
-    let step = width(split.top, n);
+    let step = width(split.top, file.n);
     for band in 0..split.top / step + 1 {
         let low = band * step;
-        if !band_inside(ticking, file, cells, n, split, low, low + step) {
+        if !band_inside(ticking, file, cells, split, low, low + step) {
             return false;
         }
     }

@@ -3,6 +3,7 @@ ghost use Rattle.std.specs.Prelude.{◌≡◌, ◌+◌, ◌*◌, ◌<◌, ◌≤
 ghost use Rattle.closed.specs.Keeping.{key_at, AllHeldIs, Added};
 
 use crate::cells::holds;
+use crate::file::File;
 use states::Key;
 
 // Key k of those that wait.
@@ -31,10 +32,10 @@ pub(crate) fn put_key(pending: &mut [u32], k: usize, key: Key)
     pending[at + 3] = key.d;
 }
 
-// Whether each of the first `count` keys is that of one of the first n states.
-pub(crate) fn all_held(file: &[u8], cells: &[u32], n: usize, pending: &[u32], count: usize) -> bool
-    requires { (16 * n ≤ length file.now) × (256 < length cells.now) × (4 * count ≤ length pending.now) }
-    ensures { AllHeldIs file.now n pending.now count result }
+// Whether each of the first `count` keys is that of one of the file's states.
+pub(crate) fn all_held(file: File, cells: &[u32], pending: &[u32], count: usize) -> bool
+    requires { (256 < length cells.now) × (4 * count ≤ length pending.now) }
+    ensures { AllHeldIs file.entry.bytes.now file.entry.n pending.now count result }
 {
-    (0..count).all(|k| holds(file, cells, n, key_at(pending, k)))
+    (0..count).all(|k| holds(file, cells, key_at(pending, k)))
 }

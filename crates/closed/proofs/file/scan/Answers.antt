@@ -9,9 +9,9 @@ use Rattle.closed.proofs.file.scan.Goals as goal
 
 pub returns : goal.returns
 returns c =
-    let file = c.args.file.now in
+    let file = c.args.file.bytes.now in
     let key = c.args.key in
-    held_is file c.args.n key c.any.result
-    (any_below c.args.n {Yes = λ i. key_in file i ≡ key} {No = λ i. key_in file i ≡ key → ⊥} c.any.result c.any.ensures.ran
+    held_is file c.args.file.n key c.any.result
+    (any_below c.args.file.n {Yes = λ i. key_in file i ≡ key} {No = λ i. key_in file i ≡ key → ⊥} c.any.result c.any.ensures.ran
     (λ x q k. keys_same _ _ (search rules))
     (λ x q k. (search rules, keys_differ _ _ (search rules))))
