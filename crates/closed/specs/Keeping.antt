@@ -103,11 +103,10 @@ abbrev pub ClosedIs : Table → List ℕ → Bool → Type 0
 ClosedIs t file true = Closed t file
 ClosedIs t file false = Closed t file → ⊥
 
--- a valid table, and a file of n whole states
+-- a valid table, and the number of the states of the file
 pub record Given (t : Table) (file : List ℕ) (n : ℕ) : Type 0 where
   pub valid : table_fault t ≡ 0
   pub is : n ≡ states_in file
-  pub whole : 16 * n ≤ length file
 
 -- .. with sound states and some cells
 pub record Ready (t : Table) (file cells : List ℕ) (n : ℕ) : Type 0 where

@@ -5,11 +5,6 @@ use Rattle.closed.proofs.RowLaws.{ready_cells}
 use native.Mathlib.Omega.{arith}
 use Rattle.closed.proofs.passes.band_inside.Goals as goal
 
-pub count_between-requires : goal.count_between-requires
-count_between-requires c =
-    let p = c.requires in
-    p.1
-
 pub overflow_add-classes : goal.overflow_add-classes
 overflow_add-classes c =
     omega (arith, c.count_between.type_inv)
@@ -17,11 +12,6 @@ overflow_add-classes c =
 pub loop-class-init : goal.loop-class-init
 loop-class-init c =
     (refl, classes_start _ _ _ _ _ _)
-
-pub index_pass-requires : goal.index_pass-requires
-index_pass-requires c =
-    let p = c.requires in
-    (omega (arith, p.0.some, c.loop-class.invariant.0), omega arith, p.1)
 
 pub rows_inside-requires : goal.rows_inside-requires
 rows_inside-requires c =

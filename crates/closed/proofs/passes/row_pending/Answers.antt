@@ -23,16 +23,6 @@ due_is :
     → b ≡ (leb low (landing top gap released) && ltb (landing top gap released) high)
 due_is low high top released is e f = rw (e, f, is)
 
-pub words_in-v-requires : goal.words_in-v-requires
-words_in-v-requires c =
-    let g = c.requires in
-    omega (arith, g.0.whole, g.3)
-
-pub gap_at-gap-requires : goal.gap_at-gap-requires
-gap_at-gap-requires c =
-    let g = c.requires in
-    (g.3, g.2)
-
 pub returns-then-not-kept-released : goal.returns-then-not-kept-released
 returns-then-not-kept-released c = (
   omega arith,

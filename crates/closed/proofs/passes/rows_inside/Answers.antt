@@ -21,13 +21,6 @@ row_pending-count-requires c =
     let b : l.row < c.args.file.n = omega arith in
     (p.0.given, p.1, p.2, b, (p.0.sound.state l.row (rw p.0.given.is at b)).proper, omega (arith, l.invariant.0, l.invariant.1))
 
-pub all_held-requires : goal.all_held-requires
-all_held-requires c =
-    let p = c.requires in
-    let l = c.loop-row in
-    let r = c.row_pending-count.ensures in
-    (p.0.some, omega (arith, l.invariant.0, l.invariant.1, r.0, r.1.grown.same))
-
 pub returns-then-not-all_held : goal.returns-then-not-all_held
 returns-then-not-all_held c =
     let a = c.args in
