@@ -19,8 +19,8 @@ use Rattle.states.proofs.KeyLaws.{Bytes}
 use Rattle.states.specs.Bytes.{state_in}
 use Rattle.closed.specs.Closed.{states_in, Closed}
 use Rattle.closed.specs.Keeping.{key_at, class_of, Due, RowOf, Inside, InsideIs, AllHeld, AllHeldIs, Grown, Added, AfterWaits, From, RowWaits}
-use Rattle.closed.specs.declared.passes.Split.{Split}
-use Rattle.closed.specs.declared.passes.Pass.{Pass}
+use Rattle.closed.specs.declared.split.Split.{Split}
+use Rattle.closed.specs.declared.split.Pass.{Pass}
 use Rattle.states.proofs.ColumnLaws.{held, held_key}
 use Rattle.closed.proofs.InsideLaws.{closed_after, RowsTo, rows_start, rows_next, rows_end}
 

@@ -38,8 +38,8 @@ use Rattle.states.proofs.MaskLaws.{Walked, walked_start, walked_next, submask_le
 use Rattle.states.specs.Bytes.{state_in}
 use Rattle.closed.specs.Closed.{states_in, Closed}
 use Rattle.closed.specs.Keeping.{class_of, landing, lands, Due, RowOf, SoundState, StateIs, SoundIs, Ready, key_at, AllHeld, Grown, AfterWaits, From, RowWaits}
-use Rattle.closed.specs.declared.passes.Split.{Split}
-use Rattle.closed.specs.declared.passes.Pass.{Pass}
+use Rattle.closed.specs.declared.split.Split.{Split}
+use Rattle.closed.specs.declared.split.Pass.{Pass}
 use Rattle.closed.proofs.Theorems.{closed_calm}
 use Rattle.closed.proofs.PendingLaws.{grown_not, grown_next, held_before}
 

@@ -17,8 +17,8 @@ use Rattle.states.specs.declared.keys.Key.{Key}
 use Rattle.states.specs.Bytes.{state_in}
 use Rattle.closed.specs.Closed.{states_in, Contains, Closed}
 use Rattle.closed.specs.declared.cells.Probed.{Probed}
-use Rattle.closed.specs.declared.passes.Split.{Split}
-use Rattle.closed.specs.declared.passes.Pass.{Pass}
+use Rattle.closed.specs.declared.split.Split.{Split}
+use Rattle.closed.specs.declared.split.Pass.{Pass}
 
 -- ---- lookups
 

@@ -5,8 +5,9 @@ ghost use Rattle.closed.specs.Closed.{file_refusal, closed_answer, Judged, Table
 ghost use Rattle.closed.specs.Keeping.{Given, SoundIs, ClosedIs};
 
 use crate::file::{File, scan};
-use crate::passes::{all_inside, split_of};
+use crate::passes::all_inside;
 use crate::sound::is_sound;
+use crate::split::split_of;
 use states::{Ticking, key_of, words_in};
 use tasks::{Refusal, Table};
 

@@ -14,48 +14,9 @@ ghost use Rattle.closed.specs.Keeping.{class_of, landing, Due, RowOf, Between, E
 use crate::cells::put;
 use crate::file::{File, gap_at};
 use crate::pending::{all_held, put_key};
+use crate::split::{Pass, Split};
 use states::{Key, Ticking, key_in, key_of, masks_of, mix, words_in};
-use tasks::{Prepared, Table, Ticker};
-
-// The task by which the pairs are split, the most that it is from its next release after a tick, and its bit in a mask.
-#[derive(Clone, Copy, Debug, PartialEq, Eq)]
-pub(crate) struct Split {
-    task: usize,
-    top: usize,
-    bit: u8,
-}
-
-// The pairs of a pass: how far the task is from its next release, from low to high - 1, and the class of the state, of so many.
-#[derive(Clone, Copy, Debug, PartialEq, Eq)]
-pub(crate) struct Pass {
-    low: usize,
-    high: usize,
-    classes: usize,
-    class: usize,
-}
-
-// The one of two tasks with the greater least gap.
-fn wider(t: Table, j: usize, i: usize) -> usize
-    requires { (j < 8) × (i < 8) }
-    ensures { result < 8 }
-{
-    if t.gap[j] < t.gap[i] { i } else { j }
-}
-
-// The task with the greatest least gap: by it the file's states fall into the most parts.
-pub(crate) fn split_of(t: Table) -> Split
-    ensures { (result.task < 8) × (result.top < 256) }
-{
-    let mut task: usize = 0;
-    for i in 0..8 {
-        task = wider(t, task, i);
-    }
-    Split {
-        task,
-        top: t.gap[task].saturating_sub(1) as usize,
-        bit: 1 << task,
-    }
-}
+use tasks::{Prepared, Ticker};
 
 // How far the task is from its next release after a tick that releases it or not, at most top.
 fn landing(top: usize, gap: u8, released: bool) -> usize
@@ -76,7 +37,7 @@ fn between(low: usize, high: usize, at: usize) -> bool
 
 // How far the task is from its next release in state i, at most top.
 fn distance(file: File, split: Split, i: usize) -> usize
-    requires { (i < file.n) × (split.task < 8) }
+    requires { i < file.n }
     ensures { result ≡ min (get_or file.entry.bytes.now (16 * i + 2 * split.task + 1) 0) split.top }
 {
     (gap_at(file, i, split.task) as usize).min(split.top)
@@ -111,7 +72,7 @@ fn put_after(
     due: bool,
     mask: u8,
 ) -> usize
-    requires { (4 * count + 4 ≤ length pending.old) × (0 < pass.classes) }
+    requires { 4 * count + 4 ≤ length pending.old }
     ensures { (result ≤ count + 1) × AfterWaits pass due (state_of (ticked_by ticker state mask)) pending.old count pending.new result }
 {
     if !due {
@@ -135,7 +96,7 @@ fn row_pending(
     pass: Pass,
     i: usize,
 ) -> usize
-    requires { Given ticking.table file.bytes.now file.n × (0 < pass.classes) × (split.task < 8) × (i < file.n) × (improper ticking.table (state_in file.bytes.now i) ≡ false) × (4 * count + 1024 ≤ length pending.old) }
+    requires { Given ticking.table file.bytes.now file.n × (i < file.n) × (improper ticking.table (state_in file.bytes.now i) ≡ false) × (4 * count + 1024 ≤ length pending.old) }
     ensures { (result ≤ count + 256) × RowWaits ticking.table file.entry.bytes.now file.entry.n (RowOf ticking.table file.entry.bytes.now split pass i) pending.old count pending.new result }
 {
     let ticker = ticking.ticker;
@@ -158,7 +119,7 @@ fn row_pending(
 // Whether the states after the masks of every state that are due in the pass are in the file. Their keys wait until there are many: looked
 // up one right after the other, they wait for memory together.
 fn rows_inside(ticking: Ticking, file: File, cells: &[u32], split: Split, pass: Pass) -> bool
-    requires { Ready ticking.table file.bytes.now cells.now file.n × (0 < pass.classes) × (split.task < 8) }
+    requires { Ready ticking.table file.bytes.now cells.now file.n }
     ensures { InsideIs ticking.table file.entry.bytes.now (Due ticking.table file.entry.bytes.now split pass) result }
 {
     let mut pending = [0u32; 1280];
@@ -177,7 +138,7 @@ fn rows_inside(ticking: Ticking, file: File, cells: &[u32], split: Split, pass: 
 
 // Puts state i into the cells, where the pass may look it up.
 fn put_due(file: File, cells: &mut [u32], split: Split, pass: Pass, i: usize)
-    requires { (256 < length cells.old) × (0 < pass.classes) × (split.task < 8) × (i < file.n) }
+    requires { (256 < length cells.old) × (i < file.n) }
     ensures { length cells.new ≡ length cells.old }
 {
     if between(pass.low, pass.high, distance(file, split, i)) {
@@ -190,7 +151,7 @@ fn put_due(file: File, cells: &mut [u32], split: Split, pass: Pass, i: usize)
 
 // Fills the cells for a pass.
 fn index_pass(file: File, cells: &mut [u32], split: Split, pass: Pass)
-    requires { (256 < length cells.old) × (0 < pass.classes) × (split.task < 8) }
+    requires { 256 < length cells.old }
     ensures { length cells.new ≡ length cells.old }
 {
     cells.fill(0);
@@ -201,7 +162,6 @@ fn index_pass(file: File, cells: &mut [u32], split: Split, pass: Pass)
 
 // How many of the file's states are so far from the task's next release.
 fn count_between(file: File, split: Split, low: usize, high: usize) -> usize
-    requires { (split.task < 8) }
     ensures { result ≤ file.entry.n }
 {
     let mut count: usize = 0;
@@ -220,7 +180,7 @@ fn band_inside(
     low: usize,
     high: usize,
 ) -> bool
-    requires { Ready ticking.table file.bytes.now cells.old file.n × (split.task < 8) }
+    requires { Ready ticking.table file.bytes.now cells.old file.n }
     ensures { (length cells.new ≡ length cells.old) × InsideIs ticking.table file.entry.bytes.now (Between file.entry.bytes.now split low high) result }
 {
     let classes = count_between(file, split, low, high) / 229376 + 1;
@@ -253,7 +213,7 @@ fn width(top: usize, n: usize) -> usize
 
 // Whether every legal mask of every state leads to a state of the file.
 pub(crate) fn all_inside(ticking: Ticking, file: File, cells: &mut [u32], split: Split) -> bool
-    requires { Ready ticking.table file.bytes.now cells.old file.n × (split.task < 8) × (split.top < 256) }
+    requires { Ready ticking.table file.bytes.now cells.old file.n }
     ensures { InsideIs ticking.table file.entry.bytes.now Every result }
 {
     let step = width(split.top, file.n);

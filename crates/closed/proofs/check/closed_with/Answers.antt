@@ -28,7 +28,7 @@ pub all_inside-requires : goal.all_inside-requires
 all_inside-requires c =
     let yes : c.all_sound.result ≡ true = c.if-not-all_sound.false in
     let sound = rw (c.of-ticking.ensures, yes) at c.all_sound.ensures in
-    (rw c.of-ticking.ensures (record { given = c.requires.0; sound = sound; some = c.requires.1 }), c.split_of.ensures.0, c.split_of.ensures.1)
+    rw c.of-ticking.ensures (record { given = c.requires.0; sound = sound; some = c.requires.1 })
 
 pub returns : goal.returns
 unfolding state_of

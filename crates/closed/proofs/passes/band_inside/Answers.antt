@@ -15,8 +15,7 @@ loop-class-init c =
 
 pub rows_inside-requires : goal.rows_inside-requires
 rows_inside-requires c =
-    let p = c.requires in
-    (ready_cells p.0 (c.index_pass.ensures ∙ c.loop-class.invariant.0), omega arith, p.1)
+    ready_cells c.requires (c.index_pass.ensures ∙ c.loop-class.invariant.0)
 
 pub shape_of-cells-then-not-rows_inside : goal.shape_of-cells-then-not-rows_inside
 shape_of-cells-then-not-rows_inside c =

@@ -42,7 +42,7 @@ put_after-c-requires c =
     let p = c.requires in
     let x = c.loop-mask.invariant in
     let step = (c.in-Some.ensures {u = tt}).steps in
-    (omega (arith, p.5, x.2, x.3, step.here, step.small), p.1)
+    omega (arith, p.3, x.2, x.3, step.here, step.small)
 
 pub loop-mask-preserved : goal.loop-mask-preserved
 loop-mask-preserved c =
@@ -75,7 +75,7 @@ returns c =
     record {
       keeps = due_is a.pass.low a.pass.high a.split.top false c.gap_at-gap.ensures c.between-kept.ensures c.landing.ensures;
       releases = due_is a.pass.low a.pass.high a.split.top true c.gap_at-gap.ensures c.between-released.ensures c.landing-2.ensures;
-      ticks = λ q. ticks a.ticking.table _ a.ticking.made c.prepare-state.ensures g.0.valid (ap (improper a.ticking.table) here ∙ g.4) words q ∙ ap (λ u. after a.ticking.table u q) here;
+      ticks = λ q. ticks a.ticking.table _ a.ticking.made c.prepare-state.ensures g.0.valid (ap (improper a.ticking.table) here ∙ g.2) words q ∙ ap (λ u. after a.ticking.table u q) here;
       frees = x.4;
     } in
-    (omega (arith, x.2, end.steps), row_end row g.0.is g.3 x.5 (omega (arith, end.steps)))
+    (omega (arith, x.2, end.steps), row_end row g.0.is g.1 x.5 (omega (arith, end.steps)))

@@ -19,13 +19,13 @@ row_pending-count-requires c =
     let p = c.requires in
     let l = c.loop-row in
     let b : l.row < c.args.file.n = omega arith in
-    (p.0.given, p.1, p.2, b, (p.0.sound.state l.row (rw p.0.given.is at b)).proper, omega (arith, l.invariant.0, l.invariant.1))
+    (p.given, b, (p.sound.state l.row (rw p.given.is at b)).proper, omega (arith, l.invariant.0, l.invariant.1))
 
 pub returns-then-not-all_held : goal.returns-then-not-all_held
 returns-then-not-all_held c =
     let a = c.args in
     let none : c.all_held.result ≡ false = c.if-not-all_held.true in
-    waiting_open a.ticking.table a.file.bytes.now a.file.n c.requires.0.given.valid c.requires.0.given.is
+    waiting_open a.ticking.table a.file.bytes.now a.file.n c.requires.given.valid c.requires.given.is
     (waiting_next a.ticking.table a.file.bytes.now a.file.n a.split a.pass c.loop-row.invariant.3 c.row_pending-count.ensures.1) (rw none at c.all_held.ensures)
 
 pub loop-row-preserved : goal.loop-row-preserved
@@ -50,4 +50,4 @@ returns c =
     let a = c.args in
     let p = c.requires in
     let z = c.loop-row.invariant.2 (omega arith) in
-    waiting_end a.ticking.table a.file.bytes.now a.file.n a.split a.pass true p.0.given.valid p.0.given.is (omega arith) c.loop-row.invariant.3 (record { each = λ k h. absurd (omega (arith, z)) })
+    waiting_end a.ticking.table a.file.bytes.now a.file.n a.split a.pass true p.given.valid p.given.is (omega arith) c.loop-row.invariant.3 (record { each = λ k h. absurd (omega (arith, z)) })
