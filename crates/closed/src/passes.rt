@@ -13,7 +13,7 @@ ghost use Rattle.closed.specs.Keeping.{class_of, landing, Due, RowOf, Between, E
 
 use crate::cells::put;
 use crate::file::{File, gap_at};
-use crate::pending::{all_held, put_key};
+use crate::pending::all_held;
 use crate::split::{Pass, Split};
 use states::{Key, Ticking, key_in, key_of, masks_of, mix, words_in};
 use tasks::{Prepared, Ticker};
@@ -65,14 +65,14 @@ fn is_due(bit: u8, kept: bool, released: bool, mask: u8) -> bool
 // Puts the key of the state after a mask behind the keys that wait, where it is due and of the pass's class. How many wait then.
 fn put_after(
     ticker: Ticker,
-    pending: &mut [u32],
+    pending: &mut [Key],
     count: usize,
     pass: Pass,
     state: Prepared,
     due: bool,
     mask: u8,
 ) -> usize
-    requires { 4 * count + 4 ≤ length pending.old }
+    requires { count < length pending.old }
     ensures { (result ≤ count + 1) × AfterWaits pass due (state_of (ticked_by ticker state mask)) pending.old count pending.new result }
 {
     if !due {
@@ -80,7 +80,7 @@ fn put_after(
     }
     let key = key_of(ticker.after(state, mask));
     if class_of(key, pass.classes) == pass.class {
-        put_key(pending, count, key);
+        pending[count] = key;
         return count + 1;
     }
     count
@@ -90,13 +90,13 @@ fn put_after(
 fn row_pending(
     ticking: Ticking,
     file: File,
-    pending: &mut [u32],
+    pending: &mut [Key],
     count: usize,
     split: Split,
     pass: Pass,
     i: usize,
 ) -> usize
-    requires { Given ticking.table file.bytes.now file.n × (i < file.n) × (improper ticking.table (state_in file.bytes.now i) ≡ false) × (4 * count + 1024 ≤ length pending.old) }
+    requires { Given ticking.table file.bytes.now file.n × (i < file.n) × (improper ticking.table (state_in file.bytes.now i) ≡ false) × (count + 256 ≤ length pending.old) }
     ensures { (result ≤ count + 256) × RowWaits ticking.table file.entry.bytes.now file.entry.n (RowOf ticking.table file.entry.bytes.now split pass i) pending.old count pending.new result }
 {
     let ticker = ticking.ticker;
@@ -122,7 +122,7 @@ fn rows_inside(ticking: Ticking, file: File, cells: &[u32], split: Split, pass: 
     requires { Ready ticking.table file.bytes.now cells.now file.n }
     ensures { InsideIs ticking.table file.entry.bytes.now (Due ticking.table file.entry.bytes.now split pass) result }
 {
-    let mut pending = [0u32; 1280];
+    let mut pending = [key_of([0; 8]); 320];
     let mut count: usize = 0;
     for row in 0..file.n {
         count = row_pending(ticking, file, &mut pending, count, split, pass, row);

@@ -8,6 +8,7 @@ use Rattle.closed.proofs.Ranges.{all_below}
 use Rattle.closed.proofs.pending.all_held.Goals as goal
 
 pub returns : goal.returns
+unfolding key_at
 returns c =
     let file = c.args.file.bytes.now in
     let n = c.args.file.n in
