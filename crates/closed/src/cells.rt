@@ -4,7 +4,7 @@
 ghost use Rattle.std.specs.Prelude.{◌≡◌, ◌+◌, ◌*◌, ◌<◌, ◌≤◌, length};
 ghost use Rattle.closed.specs.Keeping.{HeldIs, NamedIs, ProbeIs};
 
-use crate::file::{File, scan};
+use crate::file::File;
 use states::{Key, key_in, mix, same_keys};
 
 // The first of the 256 cells in which a key may stand.
@@ -64,7 +64,7 @@ pub(crate) fn holds(file: File, cells: &[u32], key: Key) -> bool
 {
     match probe(file, cells, key) {
         Probed::Found => true,
-        Probed::Empty(_) | Probed::Crowded => scan(file, key),
+        Probed::Empty(_) | Probed::Crowded => file.scan(key),
     }
 }
 
