@@ -2,7 +2,6 @@
 ghost use Rattle.std.specs.Prelude.{◌≡◌, ◌+◌, ◌*◌, ◌<◌, ◌≤◌, length};
 ghost use Rattle.closed.specs.Keeping.{key_at, AllHeldIs, Added};
 
-use crate::cells::holds;
 use crate::file::File;
 use states::Key;
 
@@ -37,5 +36,5 @@ pub(crate) fn all_held(file: File, cells: &[u32], pending: &[u32], count: usize)
     requires { (256 < length cells.now) × (4 * count ≤ length pending.now) }
     ensures { AllHeldIs file.entry.bytes.now file.entry.n pending.now count result }
 {
-    (0..count).all(|k| holds(file, cells, key_at(pending, k)))
+    (0..count).all(|k| file.holds(cells, key_at(pending, k)))
 }
