@@ -4,7 +4,7 @@
 ghost use Rattle.std.specs.Prelude.{◌≡◌, ◌+◌, ◌*◌, ◌<◌, ◌≤◌, length};
 ghost use Rattle.closed.specs.Keeping.{HeldIs, NamedIs, ProbeIs};
 
-use crate::file::{File, scan};
+use crate::file::File;
 use states::{Key, key_in, mix, same_keys};
 
 // The first of the 256 cells in which a key may stand.
@@ -57,14 +57,16 @@ fn probe(file: File, cells: &[u32], key: Key) -> Probed
     Probed::Crowded
 }
 
-// Whether one of the file's states has the key.
-pub(crate) fn holds(file: File, cells: &[u32], key: Key) -> bool
-    requires { 256 < length cells.now }
-    ensures { HeldIs file.entry.bytes.now file.entry.n key result }
-{
-    match probe(file, cells, key) {
-        Probed::Found => true,
-        Probed::Empty(_) | Probed::Crowded => scan(file, key),
+impl File<'_> {
+    // Whether one of the states has the key.
+    pub(crate) fn holds(self, cells: &[u32], key: Key) -> bool
+        requires { 256 < length cells.now }
+        ensures { HeldIs self.entry.bytes.now self.entry.n key result }
+    {
+        match probe(self, cells, key) {
+            Probed::Found => true,
+            Probed::Empty(_) | Probed::Crowded => self.scan(key),
+        }
     }
 }
 

@@ -4,7 +4,7 @@ ghost use Rattle.tasks.specs.Table.{table_fault};
 ghost use Rattle.closed.specs.Closed.{file_refusal, closed_answer, Judged, TableJudged, SheetJudged};
 ghost use Rattle.closed.specs.Keeping.{Given, SoundIs, ClosedIs};
 
-use crate::file::{File, scan};
+use crate::file::File;
 use crate::passes::all_inside;
 use crate::sound::is_sound;
 use crate::split::split_of;
@@ -29,7 +29,7 @@ fn closed_with(t: Table, file: File, cells: &mut [u32]) -> bool
         return false;
     }
     let start = key_of([0u16; 8]);
-    if !scan(file, start) {
+    if !file.scan(start) {
         return false;
     }
     all_inside(ticking, file, cells, split_of(t))

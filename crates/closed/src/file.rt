@@ -15,17 +15,19 @@ pub(crate) struct File<'a> {
     pub(crate) ghost fits: { (k : ℕ) → Fits w8 (get_or bytes.now k 0) },
 }
 
-// How many ticks task k is from its next release in state i.
-pub(crate) fn gap_at(file: File, i: usize, k: usize) -> u8
-    requires { (i < file.n) × (k < 8) }
-    ensures { result ≡ get_or file.entry.bytes.now (16 * i + 2 * k + 1) 0 }
-{
-    file.bytes[16 * i + 2 * k + 1]
-}
+impl File<'_> {
+    // How many ticks task k is from its next release in state i.
+    pub(crate) fn gap_at(self, i: usize, k: usize) -> u8
+        requires { (i < self.n) × (k < 8) }
+        ensures { result ≡ get_or self.entry.bytes.now (16 * i + 2 * k + 1) 0 }
+    {
+        self.bytes[16 * i + 2 * k + 1]
+    }
 
-// Whether one of the file's states has the key, one after the other.
-pub(crate) fn scan(file: File, key: Key) -> bool
-    ensures { HeldIs file.entry.bytes.now file.entry.n key result }
-{
-    (0..file.n).any(|i| same_keys(key_in(file.bytes, i), key))
+    // Whether one of the states has the key, one after the other.
+    pub(crate) fn scan(self, key: Key) -> bool
+        ensures { HeldIs self.entry.bytes.now self.entry.n key result }
+    {
+        (0..self.n).any(|i| same_keys(key_in(self.bytes, i), key))
+    }
 }

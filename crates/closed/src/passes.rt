@@ -12,7 +12,7 @@ ghost use Rattle.states.specs.Bytes.{state_in};
 ghost use Rattle.closed.specs.Keeping.{class_of, landing, Due, RowOf, Between, Every, InsideIs, Given, Ready, AfterWaits, RowWaits};
 
 use crate::cells::put;
-use crate::file::{File, gap_at};
+use crate::file::File;
 use crate::pending::all_held;
 use crate::split::{Pass, Split};
 use states::{Key, Ticking, key_in, key_of, masks_of, mix, words_in};
@@ -40,7 +40,7 @@ fn distance(file: File, split: Split, i: usize) -> usize
     requires { i < file.n }
     ensures { result ≡ min (get_or file.entry.bytes.now (16 * i + 2 * split.task + 1) 0) split.top }
 {
-    (gap_at(file, i, split.task) as usize).min(split.top)
+    (file.gap_at(i, split.task) as usize).min(split.top)
 }
 
 // The class of a key, of so many. One class needs no hash.
@@ -101,7 +101,7 @@ fn row_pending(
 {
     let ticker = ticking.ticker;
     let v = words_in(file.bytes, i);
-    let gap = gap_at(file, i, split.task);
+    let gap = file.gap_at(i, split.task);
     let kept = between(pass.low, pass.high, landing(split.top, gap, false));
     let released = between(pass.low, pass.high, landing(split.top, gap, true));
     if !(kept | released) {

@@ -2,7 +2,6 @@
 ghost use Rattle.std.specs.Prelude.{◌≡◌, ◌<◌, ◌≤◌, length};
 ghost use Rattle.closed.specs.Keeping.{AllHeldIs};
 
-use crate::cells::holds;
 use crate::file::File;
 use states::Key;
 
@@ -11,5 +10,5 @@ pub(crate) fn all_held(file: File, cells: &[u32], pending: &[Key], count: usize)
     requires { (256 < length cells.now) × (count ≤ length pending.now) }
     ensures { AllHeldIs file.entry.bytes.now file.entry.n pending.now count result }
 {
-    (0..count).all(|k| holds(file, cells, pending[k]))
+    (0..count).all(|k| file.holds(cells, pending[k]))
 }
