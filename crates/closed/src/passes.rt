@@ -25,7 +25,7 @@ fn landing(top: usize, gap: u8, released: bool) -> usize
     if gap == 0 {
         return if released { top } else { 0 };
     }
-    ((gap - 1) as usize).min(top)
+    usize::from(gap - 1).min(top)
 }
 
 // Whether a distance is from low to high - 1.
@@ -40,7 +40,7 @@ fn distance(file: File, split: Split, i: usize) -> usize
     requires { i < file.n }
     ensures { result ≡ min (get_or file.entry.bytes.now (16 * i + 2 * split.task + 1) 0) split.top }
 {
-    (file.gap_at(i, split.task) as usize).min(split.top)
+    usize::from(file.gap_at(i, split.task)).min(split.top)
 }
 
 // The class of a key, of so many. One class needs no hash.
@@ -166,7 +166,7 @@ fn count_between(file: File, split: Split, low: usize, high: usize) -> usize
 {
     let mut count: usize = 0;
     for i in 0..file.n {
-        count += between(low, high, distance(file, split, i)) as usize;
+        count += usize::from(between(low, high, distance(file, split, i)));
     }
     count
 }

@@ -39,7 +39,7 @@ pub(crate) fn split_of(t: Table) -> Split {
     }
     Split {
         task,
-        top: t.gap[task].saturating_sub(1) as usize,
+        top: usize::from(t.gap[task].saturating_sub(1)),
         bit: 1 << task,
     }
 }
