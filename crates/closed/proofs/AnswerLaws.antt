@@ -71,10 +71,10 @@ module _ (file : List ℕ) where
   unfolding file_refusal
   file_whole e = rw e
 
-  -- a file of whole states
+  -- a file with so many states
   pub file_given : (t : Table) → table_fault t ≡ 0 → Given t file (length file / 16)
   unfolding states_in
-  file_given t valid = record { valid = valid; is = refl; whole = omega arith }
+  file_given t valid = record { valid = valid; is = refl }
 
   module _ (t : Table) where
     pub table_fault_lem : {r : Refusal} → unless_refused (table_fault t) (tt {0}) ≡ Err r → table_file_refusal t file ≡ refusal_number r

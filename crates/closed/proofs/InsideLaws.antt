@@ -22,8 +22,8 @@ use Rattle.states.proofs.SystemLaws.{step_missed}
 use Rattle.states.specs.Bytes.{state_in}
 use Rattle.closed.specs.Closed.{states_in, Contains, Leads, Closed}
 use Rattle.closed.specs.Keeping.{class_of, lands, Due, RowOf, Between, Every, Sound, Inside}
-use Rattle.closed.specs.declared.passes.Split.{Split}
-use Rattle.closed.specs.declared.passes.Pass.{Pass}
+use Rattle.closed.specs.declared.split.Split.{Split}
+use Rattle.closed.specs.declared.split.Pass.{Pass}
 use Rattle.closed.proofs.PassLaws.{lands_low, class_low}
 
 module _ (t : Table) (file : List ℕ) (valid : table_fault t ≡ 0) where
@@ -101,12 +101,13 @@ module _ (t : Table) (file : List ℕ) where
     classes_start = inside_none (λ i m h d. let b = d.below in omega arith)
 
     pub classes_next :
-        {class : ℕ} → Inside t file (ClassesTo class) → Inside t file (Due t file split (record { low = low; high = high; classes = classes; class = class })) → Inside t file (ClassesTo (class + 1))
-    classes_next {class} x y = inside_either x y (λ i m h d. go i m d (ℕ_discrete (class_of classes (key_of (after t (state_in file i) m))) class))
+        {class : ℕ} {some : 0 < classes} → Inside t file (ClassesTo class)
+        → Inside t file (Due t file split (record { low = low; high = high; classes = classes; class = class; some = some })) → Inside t file (ClassesTo (class + 1))
+    classes_next {class} {some} x y = inside_either x y (λ i m h d. go i m d (ℕ_discrete (class_of classes (key_of (after t (state_in file i) m))) class))
       where
         go :
             (i m : ℕ) → ClassesTo (class + 1) i m → Dec (class_of classes (key_of (after t (state_in file i) m)) ≡ class)
-            → ClassesTo class i m ⊎ Due t file split (record { low = low; high = high; classes = classes; class = class }) i m
+            → ClassesTo class i m ⊎ Due t file split (record { low = low; high = high; classes = classes; class = class; some = some }) i m
         go i m d (yes e) = inr (record { low = d.between.from; high = d.between.below; class = e })
         go i m d (no ne) = inl (record { between = d.between; below = (let b = d.below in omega arith) })
 

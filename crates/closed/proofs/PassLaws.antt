@@ -11,7 +11,7 @@ use Rattle.lists.specs.Lists.{pick}
 use Rattle.lists.proofs.Bools.{by_bool}
 use Rattle.states.specs.declared.keys.Key.{Key}
 use Rattle.closed.specs.Keeping.{class_of, landing, lands}
-use Rattle.closed.specs.declared.passes.Split.{Split}
+use Rattle.closed.specs.declared.split.Split.{Split}
 
 -- ---- where a tick takes the task
 

@@ -19,88 +19,35 @@ use Rattle.states.proofs.KeyLaws.{Bytes}
 use Rattle.states.specs.Bytes.{state_in}
 use Rattle.closed.specs.Closed.{states_in, Closed}
 use Rattle.closed.specs.Keeping.{key_at, class_of, Due, RowOf, Inside, InsideIs, AllHeld, AllHeldIs, Grown, Added, AfterWaits, From, RowWaits}
-use Rattle.closed.specs.declared.passes.Split.{Split}
-use Rattle.closed.specs.declared.passes.Pass.{Pass}
+use Rattle.closed.specs.declared.split.Split.{Split}
+use Rattle.closed.specs.declared.split.Pass.{Pass}
 use Rattle.states.proofs.ColumnLaws.{held, held_key}
 use Rattle.closed.proofs.InsideLaws.{closed_after, RowsTo, rows_start, rows_next, rows_end}
 
 -- ---- a key is put behind the others
 
--- one, two, three and four numbers set, one after the other
-module _ (p : List ℕ) (at a b c d : ℕ) where
-  abbrev one_set : List ℕ
-  one_set = set p at a
+-- what stands where no key waits
+abbrev pub no_key : Key
+no_key = record { a = 0; b = 0; c = 0; d = 0 }
 
-  abbrev two_set : List ℕ
-  two_set = set one_set (at + 1) b
-
-  abbrev three_set : List ℕ
-  three_set = set two_set (at + 2) c
-
-  abbrev four_set : List ℕ
-  four_set = set three_set (at + 3) d
-
-  two_long : length two_set ≡ length p
-  two_long = length-set one_set (at + 1) b ∙ length-set p at a
-
-  three_long : length three_set ≡ length p
-  three_long = length-set two_set (at + 2) c ∙ two_long
-
-  four_long : length four_set ≡ length p
-  four_long = length-set three_set (at + 3) d ∙ three_long
-
-  four_before : (j : ℕ) → j < at → get_or four_set j 0 ≡ get_or p j 0
-  four_before j h =
-      get_or-set_other three_set (at + 3) j d 0 (λ e. omega arith) ∙ get_or-set_other two_set (at + 2) j c 0 (λ e. omega arith)
-      ∙ get_or-set_other one_set (at + 1) j b 0 (λ e. omega arith) ∙ get_or-set_other p at j a 0 (λ e. omega arith)
-
-  module _ (h : at + 4 ≤ length p) where
-    four_a : get_or four_set at 0 ≡ a
-    four_a =
-        get_or-set_other three_set (at + 3) at d 0 (λ e. omega arith) ∙ get_or-set_other two_set (at + 2) at c 0 (λ e. omega arith)
-        ∙ get_or-set_other one_set (at + 1) at b 0 (λ e. omega arith) ∙ get_or-set_same p at a 0 (omega arith)
-
-    four_b : get_or four_set (at + 1) 0 ≡ b
-    four_b =
-        get_or-set_other three_set (at + 3) (at + 1) d 0 (λ e. omega arith) ∙ get_or-set_other two_set (at + 2) (at + 1) c 0 (λ e. omega arith)
-        ∙ get_or-set_same one_set (at + 1) b 0 (let e = length-set p at a in omega arith)
-
-    four_c : get_or four_set (at + 2) 0 ≡ c
-    four_c =
-        get_or-set_other three_set (at + 3) (at + 2) d 0 (λ e. omega arith) ∙ get_or-set_same two_set (at + 2) c 0 (let e = two_long in omega arith)
-
-    four_d : get_or four_set (at + 3) 0 ≡ d
-    four_d = get_or-set_same three_set (at + 3) d 0 (let e = three_long in omega arith)
-
-pub key_put :
-    (p : List ℕ) (k : ℕ) (key : Key) → 4 * k + 4 ≤ length p → Added key p k (four_set p (4 * k) key.a key.b key.c key.d)
+pub key_put : (p : List Key) (k : ℕ) (key : Key) → k < length p → Added key p k (set p k key)
 unfolding key_at
 key_put p k key h = record {
   grown = record {
-    same = four_long p (4 * k) key.a key.b key.c key.d;
+    same = length-set p k key;
     up = omega arith;
-    first = λ j b x. record {
-      a = four_before p (4 * k) key.a key.b key.c key.d (4 * j) (omega arith) x;
-      b = four_before p (4 * k) key.a key.b key.c key.d (4 * j + 1) (omega arith) x;
-      c = four_before p (4 * k) key.a key.b key.c key.d (4 * j + 2) (omega arith) x;
-      d = four_before p (4 * k) key.a key.b key.c key.d (4 * j + 3) (omega arith) x;
-    };
+    first = λ j b. get_or-set_other p k j key no_key (λ e. omega arith);
   };
-  is = λ x. record {
-    a = four_a p (4 * k) key.a key.b key.c key.d h x;
-    b = four_b p (4 * k) key.a key.b key.c key.d h x;
-    c = four_c p (4 * k) key.a key.b key.c key.d h x;
-    d = four_d p (4 * k) key.a key.b key.c key.d h x;
-  };
+  is = get_or-set_same p k key no_key h;
 }
 
 -- ---- keys are added
 
-pub grown_not : {p : List ℕ} {count : ℕ} → Grown p count p count
+pub grown_not : {p : List Key} {count : ℕ} → Grown p count p count
 grown_not = record { same = refl; up = omega arith; first = λ k h. refl }
 
 pub grown_next :
-    {p q r : List ℕ} {count next last : ℕ} → Grown p count q next → Grown q next r last → Grown p count r last
+    {p q r : List Key} {count next last : ℕ} → Grown p count q next → Grown q next r last → Grown p count r last
 grown_next x y = record {
   same = y.same ∙ x.same;
   up = (let a = x.up in let b = y.up in omega arith);
@@ -109,12 +56,12 @@ grown_next x y = record {
 
 -- the first keys are held where all are
 pub held_before :
-    {file p q : List ℕ} {n count next : ℕ} → Grown p count q next → AllHeld file n q next → AllHeld file n p count
+    {file : List ℕ} {p q : List Key} {n count next : ℕ} → Grown p count q next → AllHeld file n q next → AllHeld file n p count
 held_before x y = record { each = λ k h. rw (x.first k h) at (y.each k (let a = x.up in omega arith)) }
 
 -- each key that waits is held, or one is not
 pub all_held_is :
-    (file : List ℕ) (n : ℕ) (p : List ℕ) (count : ℕ) (r : Bool)
+    (file : List ℕ) (n : ℕ) (p : List Key) (count : ℕ) (r : Bool)
     → MatchBool r ((k : ℕ) → k < count → Holds (key_in file) n (key_at p k)) ((k : ℕ) × (k < count) × (Holds (key_in file) n (key_at p k) → ⊥)) → AllHeldIs file n p count r
 all_held_is file n p count true h = record { each = h }
 all_held_is file n p count false h = λ all. h.2 (all.each h.0 h.1)
@@ -123,7 +70,7 @@ all_held_is file n p count false h = λ all. h.2 (all.each h.0 h.1)
 
 module _ (pass : Pass) (due : Bool) (s : State) where
   -- its key is not added
-  pub after_not : (p : List ℕ) (count : ℕ) → (due ≡ true → class_of pass.classes (key_of s) ≡ pass.class → ⊥) → AfterWaits pass due s p count p count
+  pub after_not : (p : List Key) (count : ℕ) → (due ≡ true → class_of pass.classes (key_of s) ≡ pass.class → ⊥) → AfterWaits pass due s p count p count
   after_not p count none = record {
     grown = grown_not;
     is = λ k l h. absurd (omega arith);
@@ -131,7 +78,7 @@ module _ (pass : Pass) (due : Bool) (s : State) where
   }
 
   -- it is
-  pub after_added : {p q : List ℕ} {count : ℕ} {key : Key} → Bytes s → key ≡ key_of s → Added key p count q → AfterWaits pass due s p count q (count + 1)
+  pub after_added : {p q : List Key} {count : ℕ} {key : Key} → Bytes s → key ≡ key_of s → Added key p count q → AfterWaits pass due s p count q (count + 1)
   after_added {p} {q} {count} {key} bytes e x = record {
     grown = x.grown;
     is = λ k l h. (let z : k ≡ count = omega arith in rw z (x.is ∙ e));
@@ -142,20 +89,20 @@ module _ (pass : Pass) (due : Bool) (s : State) where
 
 module _ (t : Table) (file : List ℕ) (n : ℕ) where
   -- the pairs with the property D lead to states of the file where the keys that wait are held
-  pub record Waiting (D : ℕ → ℕ → Type 0) (pending : List ℕ) (count : ℕ) : Type 0 where
+  pub record Waiting (D : ℕ → ℕ → Type 0) (pending : List Key) (count : ℕ) : Type 0 where
     pub from : (k : ℕ) → k < count → From t file (key_at pending k)
     pub inside : AllHeld file n pending count → Inside t file D
 
   -- all are held
-  pub waiting_held : {D : ℕ → ℕ → Type 0} {p : List ℕ} {count : ℕ} → Waiting D p count → AllHeld file n p count → Waiting D p 0
+  pub waiting_held : {D : ℕ → ℕ → Type 0} {p : List Key} {count : ℕ} → Waiting D p count → AllHeld file n p count → Waiting D p 0
   waiting_held x all = record { from = λ k h. absurd (omega arith); inside = λ none. x.inside all }
 
   module _ (split : Split) (pass : Pass) where
-    pub waiting_start : (pending : List ℕ) → Waiting (RowsTo t file split pass 0) pending 0
+    pub waiting_start : (pending : List Key) → Waiting (RowsTo t file split pass 0) pending 0
     waiting_start pending = record { from = λ k h. absurd (omega arith); inside = λ all. rows_start t file split pass }
 
     pub waiting_next :
-        {i : ℕ} {p q : List ℕ} {count next : ℕ} → Waiting (RowsTo t file split pass i) p count
+        {i : ℕ} {p q : List Key} {count next : ℕ} → Waiting (RowsTo t file split pass i) p count
         → RowWaits t file n (RowOf t file split pass i) p count q next → Waiting (RowsTo t file split pass (i + 1)) q next
     waiting_next {i} {p} {q} {count} {next} x y = record {
       from = λ k h. go k h (dec_lt k count);
@@ -172,12 +119,12 @@ module _ (t : Table) (file : List ℕ) (n : ℕ) where
       rw (x.is, e) (held_key file (after t (state_in file x.state) x.mask) (closed_after t file valid x.state x.mask x.below x.small x.legal c))
 
   pub waiting_open :
-      {D : ℕ → ℕ → Type 0} {p : List ℕ} {count : ℕ} → table_fault t ≡ 0 → n ≡ states_in file → Waiting D p count → (AllHeld file n p count → ⊥) → Closed t file → ⊥
+      {D : ℕ → ℕ → Type 0} {p : List Key} {count : ℕ} → table_fault t ≡ 0 → n ≡ states_in file → Waiting D p count → (AllHeld file n p count → ⊥) → Closed t file → ⊥
   waiting_open {D} {p} valid e x none c = none (record { each = λ k h. closed_held valid e c (key_at p k) (x.from k h) })
 
   -- every row is passed
   pub waiting_end :
-      (split : Split) (pass : Pass) {i : ℕ} {p : List ℕ} {count : ℕ} (r : Bool) → table_fault t ≡ 0 → n ≡ states_in file → n ≤ i
+      (split : Split) (pass : Pass) {i : ℕ} {p : List Key} {count : ℕ} (r : Bool) → table_fault t ≡ 0 → n ≡ states_in file → n ≤ i
       → Waiting (RowsTo t file split pass i) p count → AllHeldIs file n p count r → InsideIs t file (Due t file split pass) r
   waiting_end split pass true valid e l x all = rows_end t file split pass (x.inside all) e l
   waiting_end split pass false valid e l x none = waiting_open valid e x none

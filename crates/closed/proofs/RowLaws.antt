@@ -38,15 +38,15 @@ use Rattle.states.proofs.MaskLaws.{Walked, walked_start, walked_next, submask_le
 use Rattle.states.specs.Bytes.{state_in}
 use Rattle.closed.specs.Closed.{states_in, Closed}
 use Rattle.closed.specs.Keeping.{class_of, landing, lands, Due, RowOf, SoundState, StateIs, SoundIs, Ready, key_at, AllHeld, Grown, AfterWaits, From, RowWaits}
-use Rattle.closed.specs.declared.passes.Split.{Split}
-use Rattle.closed.specs.declared.passes.Pass.{Pass}
+use Rattle.closed.specs.declared.split.Split.{Split}
+use Rattle.closed.specs.declared.split.Pass.{Pass}
 use Rattle.closed.proofs.Theorems.{closed_calm}
 use Rattle.closed.proofs.PendingLaws.{grown_not, grown_next, held_before}
 
 -- ---- the masks of a state
 
 -- mask q, where it is due, leads to a state of the file if the keys that wait are held
-abbrev Led : Ticker → List ℕ → ℕ → Split → Pass → Bool → Bool → Prepared → List ℕ → ℕ → ℕ → Type 0
+abbrev Led : Ticker → List ℕ → ℕ → Split → Pass → Bool → Bool → Prepared → List Key → ℕ → ℕ → Type 0
 Led ticker file n split pass kept released state pending count q =
     pick (eqb (bit_and q split.bit) 0) kept released ≡ true → class_of pass.classes (key_of (state_of (ticked_by ticker state q))) ≡ pass.class
     → AllHeld file n pending count → Holds (state_in file) n (state_of (ticked_by ticker state q))
@@ -59,17 +59,17 @@ pub record Ticked (ticker : Ticker) (state : Prepared) (free : ℕ) (key : Key) 
   pub is : key ≡ key_of (state_of (ticked_by ticker state mask))
 
 -- the masks before m are passed
-pub record RowTo (ticker : Ticker) (file : List ℕ) (n : ℕ) (split : Split) (pass : Pass) (kept released : Bool) (state : Prepared) (free : ℕ) (old : List ℕ) (count : ℕ) (new : List ℕ) (next m : ℕ) : Type 0 where
+pub record RowTo (ticker : Ticker) (file : List ℕ) (n : ℕ) (split : Split) (pass : Pass) (kept released : Bool) (state : Prepared) (free : ℕ) (old : List Key) (count : ℕ) (new : List Key) (next m : ℕ) : Type 0 where
   pub grown : Grown old count new next
   pub from : (k : ℕ) → count ≤ k → k < next → Ticked ticker state free (key_at new k)
   pub walked : Walked (Led ticker file n split pass kept released state new next) free m
 
 module _ {ticker : Ticker} {file : List ℕ} {n : ℕ} {split : Split} {pass : Pass} {kept released : Bool} {state : Prepared} {free : ℕ} (small : free < 256) where
-  pub row_start : (p : List ℕ) (count : ℕ) → RowTo ticker file n split pass kept released state free p count p count 0
+  pub row_start : (p : List Key) (count : ℕ) → RowTo ticker file n split pass kept released state free p count p count 0
   row_start p count = record { grown = grown_not; from = λ k l h. absurd (omega arith); walked = walked_start _ small }
 
   pub row_next :
-      {p q r : List ℕ} {count next last m : ℕ} {due : Bool} → RowTo ticker file n split pass kept released state free p count q next m → m < 256
+      {p q r : List Key} {count next last m : ℕ} {due : Bool} → RowTo ticker file n split pass kept released state free p count q next m → m < 256
       → due ≡ pick (eqb (bit_and m split.bit) 0) kept released → ((k : ℕ) → Fits w8 (get_or file k 0))
       → AfterWaits pass due (state_of (ticked_by ticker state m)) q next r last → RowTo ticker file n split pass kept released state free p count r last (follows free m)
   row_next {p} {q} {r} {count} {next} {last} {m} x b due fits y = record {
@@ -116,7 +116,7 @@ module _ (t : Table) (file : List ℕ) (split : Split) (pass : Pass) (i : ℕ) {
   pub row_skipped :
       kept ≡ in_pass pass (landing split.top (get_or file (16 * i + 2 * split.task + 1) 0) false)
       → released ≡ in_pass pass (landing split.top (get_or file (16 * i + 2 * split.task + 1) 0) true)
-      → kept || released ≡ false → (n : ℕ) (p : List ℕ) (count : ℕ) → RowWaits t file n (RowOf t file split pass i) p count p count
+      → kept || released ≡ false → (n : ℕ) (p : List Key) (count : ℕ) → RowWaits t file n (RowOf t file split pass i) p count p count
   row_skipped k r none n p count = record {
     grown = grown_not;
     from = λ j l h. absurd (omega arith);
@@ -144,7 +144,7 @@ module _ {t : Table} {ticker : Ticker} {file : List ℕ} {split : Split} {pass :
 
   -- every mask is passed
   pub row_end :
-      {old new : List ℕ} {count next m : ℕ} → i < n → RowTo ticker file n split pass kept released state free old count new next m → 256 ≤ m
+      {old new : List Key} {count next m : ℕ} → i < n → RowTo ticker file n split pass kept released state free old count new next m → 256 ≤ m
       → RowWaits t file n (RowOf t file split pass i) old count new next
   row_end {old} {new} {count} {next} {m} low w l = record {
     grown = w.grown;

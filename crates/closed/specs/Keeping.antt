@@ -17,8 +17,8 @@ use Rattle.states.specs.declared.keys.Key.{Key}
 use Rattle.states.specs.Bytes.{state_in}
 use Rattle.closed.specs.Closed.{states_in, Contains, Closed}
 use Rattle.closed.specs.declared.cells.Probed.{Probed}
-use Rattle.closed.specs.declared.passes.Split.{Split}
-use Rattle.closed.specs.declared.passes.Pass.{Pass}
+use Rattle.closed.specs.declared.split.Split.{Split}
+use Rattle.closed.specs.declared.split.Pass.{Pass}
 
 -- ---- lookups
 
@@ -103,11 +103,10 @@ abbrev pub ClosedIs : Table → List ℕ → Bool → Type 0
 ClosedIs t file true = Closed t file
 ClosedIs t file false = Closed t file → ⊥
 
--- a valid table, and a file of n whole states
+-- a valid table, and the number of the states of the file
 pub record Given (t : Table) (file : List ℕ) (n : ℕ) : Type 0 where
   pub valid : table_fault t ≡ 0
   pub is : n ≡ states_in file
-  pub whole : 16 * n ≤ length file
 
 -- .. with sound states and some cells
 pub record Ready (t : Table) (file cells : List ℕ) (n : ℕ) : Type 0 where
@@ -118,31 +117,30 @@ pub record Ready (t : Table) (file cells : List ℕ) (n : ℕ) : Type 0 where
 -- ---- keys that wait for their lookup
 
 -- key k of those that wait
-unfoldable pub key_at : List ℕ → ℕ → Key
-key_at pending k =
-    record { a = get_or pending (4 * k) 0; b = get_or pending (4 * k + 1) 0; c = get_or pending (4 * k + 2) 0; d = get_or pending (4 * k + 3) 0 }
+unfoldable pub key_at : List Key → ℕ → Key
+key_at pending k = get_or pending k (record { a = 0; b = 0; c = 0; d = 0 })
 
 -- each of the first count keys is that of one of the first n states; or one is not
-pub record AllHeld (file : List ℕ) (n : ℕ) (pending : List ℕ) (count : ℕ) : Type 0 where
+pub record AllHeld (file : List ℕ) (n : ℕ) (pending : List Key) (count : ℕ) : Type 0 where
   pub each : (k : ℕ) → k < count → Holds (key_in file) n (key_at pending k)
 
-abbrev pub AllHeldIs : List ℕ → ℕ → List ℕ → ℕ → Bool → Type 0
+abbrev pub AllHeldIs : List ℕ → ℕ → List Key → ℕ → Bool → Type 0
 AllHeldIs file n pending count true = AllHeld file n pending count
 AllHeldIs file n pending count false = AllHeld file n pending count → ⊥
 
 -- as long, the first count keys the same, and no fewer
-pub record Grown (old : List ℕ) (count : ℕ) (new : List ℕ) (next : ℕ) : Type 0 where
+pub record Grown (old : List Key) (count : ℕ) (new : List Key) (next : ℕ) : Type 0 where
   pub same : length new ≡ length old
   pub up : count ≤ next
   pub first : (k : ℕ) → k < count → key_at new k ≡ key_at old k
 
 -- one key more
-pub record Added (key : Key) (old : List ℕ) (count : ℕ) (new : List ℕ) : Type 0 where
+pub record Added (key : Key) (old : List Key) (count : ℕ) (new : List Key) : Type 0 where
   pub grown : Grown old count new (count + 1)
   pub is : key_at new count ≡ key
 
 -- the key of state s waits where it is due and of the pass's class, and no other is added
-pub record AfterWaits (pass : Pass) (due : Bool) (s : State) (old : List ℕ) (count : ℕ) (new : List ℕ) (next : ℕ) : Type 0 where
+pub record AfterWaits (pass : Pass) (due : Bool) (s : State) (old : List Key) (count : ℕ) (new : List Key) (next : ℕ) : Type 0 where
   pub grown : Grown old count new next
   pub is : (k : ℕ) → count ≤ k → k < next → key_at new k ≡ key_of s
   pub held :
@@ -159,7 +157,7 @@ pub record From (t : Table) (file : List ℕ) (key : Key) : Type 0 where
   pub is : key ≡ key_of (after t (state_in file state) mask)
 
 -- the keys of the states after the pairs with the property D wait, and none is added but those of states after legal masks
-pub record RowWaits (t : Table) (file : List ℕ) (n : ℕ) (D : ℕ → ℕ → Type 0) (old : List ℕ) (count : ℕ) (new : List ℕ) (next : ℕ) : Type 0 where
+pub record RowWaits (t : Table) (file : List ℕ) (n : ℕ) (D : ℕ → ℕ → Type 0) (old : List Key) (count : ℕ) (new : List Key) (next : ℕ) : Type 0 where
   pub grown : Grown old count new next
   pub from : (k : ℕ) → count ≤ k → k < next → From t file (key_at new k)
   pub inside : AllHeld file n new next → Inside t file D

@@ -4,7 +4,7 @@
 ghost use Rattle.std.specs.Prelude.{◌≡◌, ◌+◌, ◌*◌, ◌<◌, ◌≤◌, length};
 ghost use Rattle.closed.specs.Keeping.{HeldIs, NamedIs, ProbeIs};
 
-use crate::file::scan;
+use crate::file::File;
 use states::{Key, key_in, mix, same_keys};
 
 // The first of the 256 cells in which a key may stand.
@@ -23,13 +23,12 @@ fn tag_of(key: Key) -> u32
     ((mix(key) / 262144 % 128) as u32) + 128
 }
 
-// Whether the place in a cell is that of a state with the key, among the first n.
-fn names(file: &[u8], n: usize, cell: u32, key: Key) -> bool
-    requires { 16 * n ≤ length file.now }
-    ensures { NamedIs file.now n key result }
+// Whether the place in a cell is that of a state of the file with the key.
+fn names(file: File, cell: u32, key: Key) -> bool
+    ensures { NamedIs file.entry.bytes.now file.entry.n key result }
 {
     let i = (cell % 16777216) as usize;
-    i < n && same_keys(key_in(file, i), key)
+    i < file.n && same_keys(key_in(file.bytes, i), key)
 }
 
 // What a walk along the cells of a key ends with.
@@ -40,9 +39,9 @@ pub(crate) enum Probed {
     Crowded,
 }
 
-fn probe(file: &[u8], cells: &[u32], n: usize, key: Key) -> Probed
-    requires { (16 * n ≤ length file.now) × (256 < length cells.now) }
-    ensures { ProbeIs file.now n key (length cells.now) result }
+fn probe(file: File, cells: &[u32], key: Key) -> Probed
+    requires { 256 < length cells.now }
+    ensures { ProbeIs file.entry.bytes.now file.entry.n key (length cells.now) result }
 {
     let first = first_cell(key, cells.len());
     let tag = tag_of(key);
@@ -51,30 +50,32 @@ fn probe(file: &[u8], cells: &[u32], n: usize, key: Key) -> Probed
         if cell == 0 {
             return Probed::Empty(at);
         }
-        if cell / 16777216 == tag && names(file, n, cell, key) {
+        if cell / 16777216 == tag && names(file, cell, key) {
             return Probed::Found;
         }
     }
     Probed::Crowded
 }
 
-// Whether one of the first n states has the key.
-pub(crate) fn holds(file: &[u8], cells: &[u32], n: usize, key: Key) -> bool
-    requires { (16 * n ≤ length file.now) × (256 < length cells.now) }
-    ensures { HeldIs file.now n key result }
-{
-    match probe(file, cells, n, key) {
-        Probed::Found => true,
-        Probed::Empty(_) | Probed::Crowded => scan(file, n, key),
+impl File<'_> {
+    // Whether one of the states has the key.
+    pub(crate) fn holds(self, cells: &[u32], key: Key) -> bool
+        requires { 256 < length cells.now }
+        ensures { HeldIs self.entry.bytes.now self.entry.n key result }
+    {
+        match probe(self, cells, key) {
+            Probed::Found => true,
+            Probed::Empty(_) | Probed::Crowded => self.scan(key),
+        }
     }
 }
 
 // Puts the place of state i with this key into a cell, if one is empty and none has the key. Places from 2^24 on do not fit.
-pub(crate) fn put(file: &[u8], cells: &mut [u32], n: usize, key: Key, i: usize)
-    requires { (16 * n ≤ length file.now) × (256 < length cells.old) }
+pub(crate) fn put(file: File, cells: &mut [u32], key: Key, i: usize)
+    requires { 256 < length cells.old }
     ensures { length cells.new ≡ length cells.old }
 {
-    if let Probed::Empty(at) = probe(file, cells, n, key) {
+    if let Probed::Empty(at) = probe(file, cells, key) {
         if i < 16777216 {
             cells[at] = tag_of(key) * 16777216 + (i as u32);
         }

@@ -3,57 +3,58 @@ ghost use Rattle.std.specs.Prelude.{◌≡◌, ◌<◌, ◌≤◌, length};
 ghost use Rattle.closed.specs.Closed.{file_refusal, closed_answer, Judged, TableJudged, SheetJudged};
 ghost use Rattle.closed.specs.Keeping.{Given, SoundIs, ClosedIs};
 
-use crate::file::scan;
-use crate::passes::{all_inside, split_of};
+use crate::file::File;
+use crate::passes::all_inside;
 use crate::sound::is_sound;
+use crate::split::split_of;
 use states::{Ticking, key_of, words_in};
 use tasks::{Refusal, Table, Valid};
 
 // Whether every state of the file is proper, and no mask misses from any.
-fn all_sound(ticking: Ticking, file: &[u8], n: usize) -> bool
-    requires { Given ticking.table file.now n }
-    ensures { SoundIs ticking.table file.now result }
+fn all_sound(ticking: Ticking, file: File) -> bool
+    requires { Given ticking.table file.bytes.now file.n }
+    ensures { SoundIs ticking.table file.entry.bytes.now result }
 {
-    (0..n).all(|i| is_sound(ticking, words_in(file, i)))
+    (0..file.n).all(|i| is_sound(ticking, words_in(file.bytes, i)))
 }
 
 // Whether the file is closed, with the cells given.
-fn closed_with(t: Table, file: &[u8], n: usize, cells: &mut [u32]) -> bool
-    requires { Given t file.now n × (256 < length cells.old) }
-    ensures { ClosedIs t file.now result }
+fn closed_with(t: Table, file: File, cells: &mut [u32]) -> bool
+    requires { Given t file.bytes.now file.n × (256 < length cells.old) }
+    ensures { ClosedIs t file.entry.bytes.now result }
 {
     let ticking = Ticking::of(t);
-    if !all_sound(ticking, file, n) {
+    if !all_sound(ticking, file) {
         return false;
     }
     let start = key_of([0u16; 8]);
-    if !scan(file, n, start) {
+    if !file.scan(start) {
         return false;
     }
-    all_inside(ticking, file, cells, n, split_of(t))
+    all_inside(ticking, file, cells, split_of(t))
 }
 
 // Whether the file is closed, with so many cells.
-fn closed_with_cells<const CELLS: usize>(t: Table, file: &[u8], n: usize) -> bool
-    requires { Given t file.now n × (256 < CELLS) × (CELLS ≤ 262400) }
-    ensures { ClosedIs t file.now result }
+fn closed_with_cells<const CELLS: usize>(t: Table, file: File) -> bool
+    requires { Given t file.bytes.now file.n × (256 < CELLS) × (CELLS ≤ 262400) }
+    ensures { ClosedIs t file.entry.bytes.now result }
 {
     let mut cells = [0u32; CELLS];
-    closed_with(t, file, n, &mut cells)
+    closed_with(t, file, &mut cells)
 }
 
-// Whether the file is closed, with the cells for n states: the fewer, the sooner they are cleared and the nearer they are to the
+// Whether the file is closed, with the cells for its states: the fewer, the sooner they are cleared and the nearer they are to the
 // processor. The compiler makes one frame of the three.
-fn closed_sized(t: Table, file: &[u8], n: usize) -> bool
-    requires { Given t file.now n }
-    ensures { ClosedIs t file.now result }
+fn closed_sized(t: Table, file: File) -> bool
+    requires { Given t file.bytes.now file.n }
+    ensures { ClosedIs t file.entry.bytes.now result }
 {
-    if n <= 12288 {
-        closed_with_cells::<16640>(t, file, n)
-    } else if n <= 49152 {
-        closed_with_cells::<65792>(t, file, n)
+    if file.n <= 12288 {
+        closed_with_cells::<16640>(t, file)
+    } else if file.n <= 49152 {
+        closed_with_cells::<65792>(t, file)
     } else {
-        closed_with_cells::<262400>(t, file, n)
+        closed_with_cells::<262400>(t, file)
     }
 }
 
@@ -65,7 +66,11 @@ fn closed_valid(valid: Valid, file: &[u8]) -> Result<bool, Refusal>
     if length == 0 || 0 < length % 16 {
         return Err(Refusal::FileLength);
     }
-    Ok(closed_sized(valid.table, file, length / 16))
+    let states = File {
+        bytes: file,
+        n: length / 16,
+    };
+    Ok(closed_sized(valid.table, states))
 }
 
 // Whether a file of states is closed under the ticks of a table.

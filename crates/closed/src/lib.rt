@@ -8,5 +8,6 @@ mod file;
 mod passes;
 mod pending;
 mod sound;
+mod split;
 
 pub use check::{closed_sheet, closed_table};

@@ -12,50 +12,11 @@ ghost use Rattle.states.specs.Bytes.{state_in};
 ghost use Rattle.closed.specs.Keeping.{class_of, landing, Due, RowOf, Between, Every, InsideIs, Given, Ready, AfterWaits, RowWaits};
 
 use crate::cells::put;
-use crate::file::gap_at;
-use crate::pending::{all_held, put_key};
+use crate::file::File;
+use crate::pending::all_held;
+use crate::split::{Pass, Split};
 use states::{Key, Ticking, key_in, key_of, masks_of, mix, words_in};
-use tasks::{Prepared, Table, Ticker};
-
-// The task by which the pairs are split, the most that it is from its next release after a tick, and its bit in a mask.
-#[derive(Clone, Copy, Debug, PartialEq, Eq)]
-pub(crate) struct Split {
-    task: usize,
-    top: usize,
-    bit: u8,
-}
-
-// The pairs of a pass: how far the task is from its next release, from low to high - 1, and the class of the state, of so many.
-#[derive(Clone, Copy, Debug, PartialEq, Eq)]
-pub(crate) struct Pass {
-    low: usize,
-    high: usize,
-    classes: usize,
-    class: usize,
-}
-
-// The one of two tasks with the greater least gap.
-fn wider(t: Table, j: usize, i: usize) -> usize
-    requires { (j < 8) × (i < 8) }
-    ensures { result < 8 }
-{
-    if t.gap[j] < t.gap[i] { i } else { j }
-}
-
-// The task with the greatest least gap: by it the file's states fall into the most parts.
-pub(crate) fn split_of(t: Table) -> Split
-    ensures { (result.task < 8) × (result.top < 256) }
-{
-    let mut task: usize = 0;
-    for i in 0..8 {
-        task = wider(t, task, i);
-    }
-    Split {
-        task,
-        top: t.gap[task].saturating_sub(1) as usize,
-        bit: 1 << task,
-    }
-}
+use tasks::{Prepared, Ticker};
 
 // How far the task is from its next release after a tick that releases it or not, at most top.
 fn landing(top: usize, gap: u8, released: bool) -> usize
@@ -64,7 +25,7 @@ fn landing(top: usize, gap: u8, released: bool) -> usize
     if gap == 0 {
         return if released { top } else { 0 };
     }
-    ((gap - 1) as usize).min(top)
+    usize::from(gap - 1).min(top)
 }
 
 // Whether a distance is from low to high - 1.
@@ -75,11 +36,11 @@ fn between(low: usize, high: usize, at: usize) -> bool
 }
 
 // How far the task is from its next release in state i, at most top.
-fn distance(file: &[u8], split: Split, i: usize) -> usize
-    requires { (16 * i + 16 ≤ length file.now) × (split.task < 8) }
-    ensures { result ≡ min (get_or file.now (16 * i + 2 * split.task + 1) 0) split.top }
+fn distance(file: File, split: Split, i: usize) -> usize
+    requires { i < file.n }
+    ensures { result ≡ min (get_or file.entry.bytes.now (16 * i + 2 * split.task + 1) 0) split.top }
 {
-    (gap_at(file, i, split.task) as usize).min(split.top)
+    usize::from(file.gap_at(i, split.task)).min(split.top)
 }
 
 // The class of a key, of so many. One class needs no hash.
@@ -104,14 +65,14 @@ fn is_due(bit: u8, kept: bool, released: bool, mask: u8) -> bool
 // Puts the key of the state after a mask behind the keys that wait, where it is due and of the pass's class. How many wait then.
 fn put_after(
     ticker: Ticker,
-    pending: &mut [u32],
+    pending: &mut [Key],
     count: usize,
     pass: Pass,
     state: Prepared,
     due: bool,
     mask: u8,
 ) -> usize
-    requires { (4 * count + 4 ≤ length pending.old) × (0 < pass.classes) }
+    requires { count < length pending.old }
     ensures { (result ≤ count + 1) × AfterWaits pass due (state_of (ticked_by ticker state mask)) pending.old count pending.new result }
 {
     if !due {
@@ -119,7 +80,7 @@ fn put_after(
     }
     let key = key_of(ticker.after(state, mask));
     if class_of(key, pass.classes) == pass.class {
-        put_key(pending, count, key);
+        pending[count] = key;
         return count + 1;
     }
     count
@@ -128,20 +89,19 @@ fn put_after(
 // Puts the keys of the states after the masks of state i that are due in the pass behind those that wait. How many wait then.
 fn row_pending(
     ticking: Ticking,
-    file: &[u8],
-    pending: &mut [u32],
+    file: File,
+    pending: &mut [Key],
     count: usize,
-    n: usize,
     split: Split,
     pass: Pass,
     i: usize,
 ) -> usize
-    requires { Given ticking.table file.now n × (0 < pass.classes) × (split.task < 8) × (i < n) × (improper ticking.table (state_in file.now i) ≡ false) × (4 * count + 1024 ≤ length pending.old) }
-    ensures { (result ≤ count + 256) × RowWaits ticking.table file.now n (RowOf ticking.table file.now split pass i) pending.old count pending.new result }
+    requires { Given ticking.table file.bytes.now file.n × (i < file.n) × (improper ticking.table (state_in file.bytes.now i) ≡ false) × (count + 256 ≤ length pending.old) }
+    ensures { (result ≤ count + 256) × RowWaits ticking.table file.entry.bytes.now file.entry.n (RowOf ticking.table file.entry.bytes.now split pass i) pending.old count pending.new result }
 {
     let ticker = ticking.ticker;
-    let v = words_in(file, i);
-    let gap = gap_at(file, i, split.task);
+    let v = words_in(file.bytes, i);
+    let gap = file.gap_at(i, split.task);
     let kept = between(pass.low, pass.high, landing(split.top, gap, false));
     let released = between(pass.low, pass.high, landing(split.top, gap, true));
     if !(kept | released) {
@@ -158,23 +118,16 @@ fn row_pending(
 
 // Whether the states after the masks of every state that are due in the pass are in the file. Their keys wait until there are many: looked
 // up one right after the other, they wait for memory together. With the lookup in a loop of its own a check took 1.18 times as long.
-fn rows_inside(
-    ticking: Ticking,
-    file: &[u8],
-    cells: &[u32],
-    n: usize,
-    split: Split,
-    pass: Pass,
-) -> bool
-    requires { Ready ticking.table file.now cells.now n × (0 < pass.classes) × (split.task < 8) }
-    ensures { InsideIs ticking.table file.now (Due ticking.table file.now split pass) result }
+fn rows_inside(ticking: Ticking, file: File, cells: &[u32], split: Split, pass: Pass) -> bool
+    requires { Ready ticking.table file.bytes.now cells.now file.n }
+    ensures { InsideIs ticking.table file.entry.bytes.now (Due ticking.table file.entry.bytes.now split pass) result }
 {
-    let mut pending = [0u32; 1280];
+    let mut pending = [key_of([0; 8]); 320];
     let mut count: usize = 0;
-    for row in 0..n {
-        count = row_pending(ticking, file, &mut pending, count, n, split, pass, row);
-        if (64 <= count) | (row + 1 == n) {
-            if !all_held(file, cells, n, &pending, count) {
+    for row in 0..file.n {
+        count = row_pending(ticking, file, &mut pending, count, split, pass, row);
+        if (64 <= count) | (row + 1 == file.n) {
+            if !all_held(file, cells, &pending, count) {
                 return false;
             }
             count = 0;
@@ -184,37 +137,36 @@ fn rows_inside(
 }
 
 // Puts state i into the cells, where the pass may look it up.
-fn put_due(file: &[u8], cells: &mut [u32], n: usize, split: Split, pass: Pass, i: usize)
-    requires { (16 * n ≤ length file.now) × (256 < length cells.old) × (0 < pass.classes) × (split.task < 8) × (i < n) }
+fn put_due(file: File, cells: &mut [u32], split: Split, pass: Pass, i: usize)
+    requires { (256 < length cells.old) × (i < file.n) }
     ensures { length cells.new ≡ length cells.old }
 {
     if between(pass.low, pass.high, distance(file, split, i)) {
-        let key = key_in(file, i);
+        let key = key_in(file.bytes, i);
         if class_of(key, pass.classes) == pass.class {
-            put(file, cells, n, key, i);
+            put(file, cells, key, i);
         }
     }
 }
 
 // Fills the cells for a pass.
-fn index_pass(file: &[u8], cells: &mut [u32], n: usize, split: Split, pass: Pass)
-    requires { (16 * n ≤ length file.now) × (256 < length cells.old) × (0 < pass.classes) × (split.task < 8) }
+fn index_pass(file: File, cells: &mut [u32], split: Split, pass: Pass)
+    requires { 256 < length cells.old }
     ensures { length cells.new ≡ length cells.old }
 {
     cells.fill(0);
-    for i in 0..n {
-        put_due(file, cells, n, split, pass, i);
+    for i in 0..file.n {
+        put_due(file, cells, split, pass, i);
     }
 }
 
 // How many of the file's states are so far from the task's next release.
-fn count_between(file: &[u8], n: usize, split: Split, low: usize, high: usize) -> usize
-    requires { (16 * n ≤ length file.now) × (split.task < 8) }
-    ensures { result ≤ n }
+fn count_between(file: File, split: Split, low: usize, high: usize) -> usize
+    ensures { result ≤ file.entry.n }
 {
     let mut count: usize = 0;
-    for i in 0..n {
-        count += between(low, high, distance(file, split, i)) as usize;
+    for i in 0..file.n {
+        count += usize::from(between(low, high, distance(file, split, i)));
     }
     count
 }
@@ -222,17 +174,16 @@ fn count_between(file: &[u8], n: usize, split: Split, low: usize, high: usize) -
 // The passes of the states so far from the task's next release, one a class.
 fn band_inside(
     ticking: Ticking,
-    file: &[u8],
+    file: File,
     cells: &mut [u32],
-    n: usize,
     split: Split,
     low: usize,
     high: usize,
 ) -> bool
-    requires { Ready ticking.table file.now cells.old n × (split.task < 8) }
-    ensures { (length cells.new ≡ length cells.old) × InsideIs ticking.table file.now (Between file.now split low high) result }
+    requires { Ready ticking.table file.bytes.now cells.old file.n }
+    ensures { (length cells.new ≡ length cells.old) × InsideIs ticking.table file.entry.bytes.now (Between file.entry.bytes.now split low high) result }
 {
-    let classes = count_between(file, n, split, low, high) / 229376 + 1;
+    let classes = count_between(file, split, low, high) / 229376 + 1;
     for class in 0..classes {
         let pass = Pass {
             low,
@@ -240,8 +191,8 @@ fn band_inside(
             classes,
             class,
         };
-        index_pass(file, cells, n, split, pass);
-        if !rows_inside(ticking, file, cells, n, split, pass) {
+        index_pass(file, cells, split, pass);
+        if !rows_inside(ticking, file, cells, split, pass) {
             return false;
         }
     }
@@ -261,20 +212,14 @@ fn width(top: usize, n: usize) -> usize
 }
 
 // Whether every legal mask of every state leads to a state of the file.
-pub(crate) fn all_inside(
-    ticking: Ticking,
-    file: &[u8],
-    cells: &mut [u32],
-    n: usize,
-    split: Split,
-) -> bool
-    requires { Ready ticking.table file.now cells.old n × (split.task < 8) × (split.top < 256) }
-    ensures { InsideIs ticking.table file.now Every result }
+pub(crate) fn all_inside(ticking: Ticking, file: File, cells: &mut [u32], split: Split) -> bool
+    requires { Ready ticking.table file.bytes.now cells.old file.n }
+    ensures { InsideIs ticking.table file.entry.bytes.now Every result }
 {
-    let step = width(split.top, n);
+    let step = width(split.top, file.n);
     for band in 0..split.top / step + 1 {
         let low = band * step;
-        if !band_inside(ticking, file, cells, n, split, low, low + step) {
+        if !band_inside(ticking, file, cells, split, low, low + step) {
             return false;
         }
     }

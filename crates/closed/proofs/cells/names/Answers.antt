@@ -6,10 +6,10 @@ use Rattle.states.specs.Keys.{same_keys}
 use Rattle.closed.proofs.FileLaws.{named}
 use Rattle.closed.proofs.cells.names.Goals as goal
 
-pub returns-then-i-n : goal.returns-then-i-n
-returns-then-i-n c =
+pub returns-then-i-file : goal.returns-then-i-file
+returns-then-i-file c =
     let a = c.args in
-    named a.file.now (a.cell % 16777216) a.key c.same_keys.result c.if-i-n.true (c.same_keys.ensures ∙ ap (λ k. same_keys k a.key) c.key_in.ensures)
+    named a.file.bytes.now (a.cell % 16777216) a.key c.same_keys.result c.if-i-file.true (c.same_keys.ensures ∙ ap (λ k. same_keys k a.key) c.key_in.ensures)
 
-pub returns-else-i-n : goal.returns-else-i-n
-returns-else-i-n c = rw (le-ltb _ _ c.if-i-n.false) tt
+pub returns-else-i-file : goal.returns-else-i-file
+returns-else-i-file c = rw (le-ltb _ _ c.if-i-file.false) tt

@@ -7,4 +7,4 @@ use Rattle.closed.proofs.InsideLaws.{BandsTo}
 use Rattle.closed.proofs.passes.all_inside.Given as goal
 
 abbrev pub invariant-loop-band : goal.invariant-loop-band
-invariant-loop-band l = (length l.cells ≡ length l.initial.cells) × Inside l.ticking.table l.file (BandsTo l.ticking.table l.file l.split (l.band * l.step))
+invariant-loop-band l = (length l.cells ≡ length l.initial.cells) × Inside l.ticking.table l.file.bytes.now (BandsTo l.ticking.table l.file.bytes.now l.split (l.band * l.step))

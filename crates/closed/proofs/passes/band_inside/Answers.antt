@@ -5,11 +5,6 @@ use Rattle.closed.proofs.RowLaws.{ready_cells}
 use native.Mathlib.Omega.{arith}
 use Rattle.closed.proofs.passes.band_inside.Goals as goal
 
-pub count_between-requires : goal.count_between-requires
-count_between-requires c =
-    let p = c.requires in
-    (p.0.given.whole, p.1)
-
 pub overflow_add-classes : goal.overflow_add-classes
 overflow_add-classes c =
     omega (arith, c.count_between.type_inv)
@@ -18,15 +13,9 @@ pub loop-class-init : goal.loop-class-init
 loop-class-init c =
     (refl, classes_start _ _ _ _ _ _)
 
-pub index_pass-requires : goal.index_pass-requires
-index_pass-requires c =
-    let p = c.requires in
-    (p.0.given.whole, omega (arith, p.0.some, c.loop-class.invariant.0), omega arith, p.1)
-
 pub rows_inside-requires : goal.rows_inside-requires
 rows_inside-requires c =
-    let p = c.requires in
-    (ready_cells p.0 (c.index_pass.ensures ∙ c.loop-class.invariant.0), omega arith, p.1)
+    ready_cells c.requires (c.index_pass.ensures ∙ c.loop-class.invariant.0)
 
 pub shape_of-cells-then-not-rows_inside : goal.shape_of-cells-then-not-rows_inside
 shape_of-cells-then-not-rows_inside c =
@@ -41,7 +30,7 @@ pub loop-class-preserved : goal.loop-class-preserved
 loop-class-preserved c =
     let a = c.args in
     let yes : c.rows_inside.result ≡ true = c.if-not-rows_inside.false in
-    (c.index_pass.ensures ∙ c.loop-class.invariant.0, classes_next a.ticking.table a.file.now a.split a.low a.high _ c.loop-class.invariant.1 (rw yes at c.rows_inside.ensures))
+    (c.index_pass.ensures ∙ c.loop-class.invariant.0, classes_next a.ticking.table a.file.bytes.now a.split a.low a.high _ c.loop-class.invariant.1 (rw yes at c.rows_inside.ensures))
 
 pub shape_of-cells : goal.shape_of-cells
 shape_of-cells c =
@@ -50,4 +39,4 @@ shape_of-cells c =
 pub returns : goal.returns
 returns c =
     let a = c.args in
-    (c.loop-class.invariant.0, classes_end a.ticking.table a.file.now a.split a.low a.high _ c.loop-class.invariant.1 (omega arith) (omega arith))
+    (c.loop-class.invariant.0, classes_end a.ticking.table a.file.bytes.now a.split a.low a.high _ c.loop-class.invariant.1 (omega arith) (omega arith))

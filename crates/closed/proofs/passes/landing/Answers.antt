@@ -1,4 +1,5 @@
 -- Case by case. Assumes nothing.
+use Prim.Native.Nat.{min}
 use mathlib.Core.Path.{sym, ap, ◌∙◌}
 use Rattle.lists.specs.Lists.{pick}
 use Rattle.closed.proofs.PassLaws.{landing_now, landing_far}
@@ -17,4 +18,4 @@ returns-else-released c =
 pub returns : goal.returns
 returns c =
     let a = c.args in
-    c.min.ensures ∙ landing_far a.top a.gap a.released c.if-gap-eq0.false
+    c.min.ensures ∙ ap (λ x. min x a.top) c.from.ensures ∙ landing_far a.top a.gap a.released c.if-gap-eq0.false

@@ -6,7 +6,7 @@ use Rattle.lists.proofs.Bools.{clash}
 use Rattle.states.specs.Keys.{key_of}
 use Rattle.states.proofs.WordLaws.{word_bytes}
 use Rattle.closed.specs.Keeping.{class_of}
-use Rattle.closed.proofs.PendingLaws.{after_not, after_added}
+use Rattle.closed.proofs.PendingLaws.{after_not, after_added, key_put}
 use native.Mathlib.Omega.{arith}
 use borrow.Author.Rules.{rules}
 use Rattle.closed.proofs.passes.put_after.Goals as goal
@@ -21,7 +21,7 @@ returns-then-class_of-pass c =
     let a = c.args in
     let v = c.after.result in
     rw (← c.after.ensures)
-    (omega arith, after_added a.pass a.due (state_of v) (word_bytes v (λ k b. search rules)) c.key_of-key.ensures c.put_key.ensures)
+    (omega arith, after_added a.pass a.due (state_of v) (word_bytes v (λ k b. search rules)) c.key_of-key.ensures (key_put a.pending.now a.count c.key_of-key.result c.requires))
 
 pub returns : goal.returns
 returns c =

@@ -11,5 +11,5 @@ use Rattle.closed.proofs.passes.row_pending.Given as goal
 abbrev pub invariant-loop-mask : goal.invariant-loop-mask
 invariant-loop-mask l =
     (goal.iterator-loop-mask).can_next l.mask-iterator × (goal.iterator-loop-mask).is_finite l.mask-iterator
-    × (l.c ≤ l.count + place l.mask-iterator.next) × (length l.pending ≡ length l.initial.pending) × (l.mask-iterator.free ≡ free_mask l.fn.ticking.table (state_in l.file l.i))
-    × RowTo l.ticker l.file l.n l.split l.pass l.kept l.released l.state l.mask-iterator.free l.initial.pending l.count l.pending l.c (place l.mask-iterator.next)
+    × (l.c ≤ l.count + place l.mask-iterator.next) × (length l.pending ≡ length l.initial.pending) × (l.mask-iterator.free ≡ free_mask l.fn.ticking.table (state_in l.file.bytes.now l.i))
+    × RowTo l.ticker l.file.bytes.now l.file.n l.split l.pass l.kept l.released l.state l.mask-iterator.free l.initial.pending l.count l.pending l.c (place l.mask-iterator.next)

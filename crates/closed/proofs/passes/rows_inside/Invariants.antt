@@ -7,4 +7,4 @@ use Rattle.closed.proofs.PendingLaws.{Waiting}
 use Rattle.closed.proofs.passes.rows_inside.Given as goal
 
 abbrev pub invariant-loop-row : goal.invariant-loop-row
-invariant-loop-row l = (length l.pending ≡ 1280) × (l.count < 64) × (l.n ≤ l.row → l.count ≡ 0) × Waiting l.ticking.table l.file l.n (RowsTo l.ticking.table l.file l.split l.pass l.row) l.pending l.count
+invariant-loop-row l = (length l.pending ≡ 320) × (l.count < 64) × (l.file.n ≤ l.row → l.count ≡ 0) × Waiting l.ticking.table l.file.bytes.now l.file.n (RowsTo l.ticking.table l.file.bytes.now l.split l.pass l.row) l.pending l.count

@@ -8,9 +8,10 @@ use Rattle.closed.proofs.Ranges.{all_below}
 use Rattle.closed.proofs.pending.all_held.Goals as goal
 
 pub returns : goal.returns
+unfolding key_at
 returns c =
-    let file = c.args.file.now in
-    let n = c.args.n in
+    let file = c.args.file.bytes.now in
+    let n = c.args.file.n in
     let pending = c.args.pending.now in
     all_held_is file n pending c.args.count c.all.result
     (all_below c.args.count {Yes = λ i. Holds (key_in file) n (key_at pending i)} {No = λ i. Holds (key_in file) n (key_at pending i) → ⊥} c.all.result c.all.ensures.ran
