@@ -66,7 +66,7 @@ fn figure(t: Table, v: [u16; 8]) -> u64
     let s = State::of_words(v);
     word(s.c)
         .wrapping_add(word(s.p))
-        .wrapping_add(u64::from(tasks::misses(t, v)))
+        .wrapping_add(tasks::misses(t, v) as u64)
 }
 
 // How many ticks there are.

@@ -1,5 +1,4 @@
-use mathlib.Core.Path.{refl}
-use Rattle.lists.proofs.Fill.{filled_start, filled_store, filled_end}
+use Rattle.lists.proofs.Fill.{filled_store, filled_end}
 use Rattle.cores.proofs.RankLaws.{rank_turn, rank_room}
 use native.Mathlib.Omega.{arith}
 use Rattle.cores.proofs.walk.count_place.Goals as goal

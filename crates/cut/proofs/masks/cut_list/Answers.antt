@@ -1,5 +1,5 @@
 use native.Mathlib.Omega.{arith}
-use Rattle.cut.proofs.MaskLaws.{cutting_start, cutting_step, cutting_end}
+use Rattle.cut.proofs.MaskLaws.{cutting_end}
 use Rattle.cut.proofs.masks.cut_list.Goals as goal
 
 pub returns : goal.returns

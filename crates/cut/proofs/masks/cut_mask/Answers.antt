@@ -1,5 +1,5 @@
 -- From the eighth bit on there is none, and below it 2 ^ k fits a byte. Assumes nothing.
-use Rattle.cut.proofs.MaskLaws.{mask_whole, unit_some, mask_low}
+use Rattle.cut.proofs.MaskLaws.{mask_whole, mask_low}
 use borrow.Author.Rules.{rules}
 use Rattle.cut.proofs.masks.cut_mask.Goals as goal
 

@@ -1,5 +1,5 @@
 use mathlib.Core.Path.{refl}
-use Rattle.lines.proofs.Digits.{decimal_word, decimal_some, decimal_longer, decimal_single}
+use Rattle.lines.proofs.Digits.{decimal_word, decimal_longer, decimal_single}
 use native.Mathlib.Omega.{arith}
 use Rattle.lines.proofs.decimal.decimal_len.Goals as goal
 

@@ -1,6 +1,6 @@
 -- The word, and then the number. Assumes nothing.
 use mathlib.Core.List.{◌++◌}
-use Rattle.tasks.proofs.Stores.{storing_start, storing_step, storing_room, storing_left, storing_last}
+use Rattle.tasks.proofs.Stores.{storing_start, storing_step, storing_last}
 use Rattle.lines.specs.Lines.{decimal}
 use native.Mathlib.Omega.{arith}
 use Rattle.lines.proofs.decimal.put_word.Goals as goal

@@ -1,5 +1,5 @@
 use Prim.Native.Nat.{◌+◌}
-use mathlib.Core.Path.{◌≡◌, refl, sym, ap, ◌∙◌}
+use mathlib.Core.Path.{◌≡◌, sym, ap, ◌∙◌}
 use lib.ListN.{length, get_or, drop}
 use borrow.Author.Tests.{lt-leb, le-leb}
 use Rattle.lines.specs.Lines.{decimal, mask_lines}

@@ -1,7 +1,7 @@
 use Prim.Native.Nat.{◌+◌}
 use mathlib.Core.List.{[]}
 use lib.ListN.{get_or, drop}
-use Rattle.tasks.proofs.Stores.{storing_start, storing_step, storing_room, storing_end}
+use Rattle.tasks.proofs.Stores.{storing_step, storing_room, storing_end}
 use Rattle.lines.specs.Lines.{line, mask_lines}
 use Rattle.lines.proofs.LineLaws.{masks_turn, masks_end}
 use native.Mathlib.Omega.{arith}

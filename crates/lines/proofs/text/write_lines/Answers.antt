@@ -9,7 +9,7 @@ use lib.Seq.{sets}
 use borrow.Author.Tests.{leb-true, leb-false}
 use Rattle.std.specs.Prelude.{Result, Ok}
 use Rattle.tasks.specs.declared.refusal.Refusal.{Refusal}
-use Rattle.tasks.proofs.Stores.{Storing, storing_start, storing_step, storing_left, storing_last}
+use Rattle.tasks.proofs.Stores.{Storing, storing_start, storing_step, storing_last}
 use Rattle.search.specs.declared.run.Verdict.{Verdict}
 use Rattle.lines.specs.Lines.{first_line, mask_lines, masks_given, lines_of}
 use Rattle.lines.proofs.LineLaws.{lines_length, lines_short, lines_fit, lines_stored, lines_most}

@@ -1,6 +1,5 @@
-use mathlib.Core.Path.{◌≡◌, ◌∙◌}
+use mathlib.Core.Path.{◌∙◌}
 use Rattle.session_bytes.proofs.SpaceLaws.{marks_none, marks_turn}
-use native.Mathlib.Omega.{arith}
 use Rattle.session_bytes.proofs.write.put_marks.Goals as goal
 
 pub loop-i-init : goal.loop-i-init
