@@ -18,13 +18,18 @@ use Rattle.states.specs.declared.keys.Key.{Key}
 use Rattle.states.proofs.KeyLaws.{Bytes}
 use Rattle.states.specs.Bytes.{state_in}
 use Rattle.closed.specs.Closed.{states_in, Closed}
-use Rattle.closed.specs.Keeping.{key_at, class_of, Due, RowOf, Inside, InsideIs, AllHeld, AllHeldIs, Grown, Added, AfterWaits, From, RowWaits}
+use Rattle.closed.specs.Keeping.{key_at, class_of, Due, RowOf, Inside, InsideIs, AllHeld, AllHeldIs, Grown, AfterWaits, From, RowWaits}
 use Rattle.closed.specs.declared.split.Split.{Split}
 use Rattle.closed.specs.declared.split.Pass.{Pass}
 use Rattle.states.proofs.ColumnLaws.{held, held_key}
 use Rattle.closed.proofs.InsideLaws.{closed_after, RowsTo, rows_start, rows_next, rows_end}
 
 -- ---- a key is put behind the others
+
+-- one key more
+pub record Added (key : Key) (old : List Key) (count : ℕ) (new : List Key) : Type 0 where
+  pub grown : Grown old count new (count + 1)
+  pub is : key_at new count ≡ key
 
 -- what stands where no key waits
 abbrev pub no_key : Key

@@ -57,9 +57,8 @@ closed_answer (Ok true) = 1 ∷ []
 closed_answer (Ok false) = 2 ∷ []
 closed_answer (Err r) = 0 ∷ refusal_number r ∷ []
 
--- the answer to a file that has this refusal, 0 for none: "accepted exactly when" it is closed; "Any other nonempty file of whole
--- states, also
--- one with a state that isn't proper, is answered No"
+-- the answer to a file that has this refusal, 0 for none: "accepted exactly when" it is closed; "Any other nonempty file of whole states,
+-- also one with a state that isn't proper, is answered No"
 pub record Judged (refusal : ℕ) (t : Table) (file : List ℕ) (a : List ℕ) : Type 0 where
   pub refused : 0 < refusal → a ≡ 0 ∷ refusal ∷ []
   pub accepted : refusal ≡ 0 → ((a ≡ 1 ∷ []) ↔ Closed t file)

@@ -134,11 +134,6 @@ pub record Grown (old : List Key) (count : ℕ) (new : List Key) (next : ℕ) : 
   pub up : count ≤ next
   pub first : (k : ℕ) → k < count → key_at new k ≡ key_at old k
 
--- one key more
-pub record Added (key : Key) (old : List Key) (count : ℕ) (new : List Key) : Type 0 where
-  pub grown : Grown old count new (count + 1)
-  pub is : key_at new count ≡ key
-
 -- the key of state s waits where it is due and of the pass's class, and no other is added
 pub record AfterWaits (pass : Pass) (due : Bool) (s : State) (old : List Key) (count : ℕ) (new : List Key) (next : ℕ) : Type 0 where
   pub grown : Grown old count new next

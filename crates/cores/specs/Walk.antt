@@ -1,10 +1,7 @@
 -- The choice of the running tasks by one number a task, its place, and the walk that makes it: it gives the processors out one after the
--- other
--- and carries their number ("cores handed out", document 02, §2). A place is 0 where the task's job keeps its processor and 65534 or
--- 65535 where
--- it has none; of the others the smaller goes first, and of equal ones that of the smaller task number. No part of the paper's model:
--- proofs/Place.antt of `tasks`
--- shows that the places of a state give the choice of its Tick.antt.
+-- other and carries their number ("cores handed out", document 02, §2). A place is 0 where the task's job keeps its processor and 65534 or
+-- 65535 where it has none; of the others the smaller goes first, and of equal ones that of the smaller task number. No part of the paper's
+-- model: proofs/Place.antt of `tasks` shows that the places of a state give the choice of its Tick.antt.
 use Rattle.std.specs.Prelude.{ℕ, ◌≤◌, ◌≡◌, List, Bool, ◌&&◌, ◌||◌, get_or, eqb, ltb}
 use Rattle.lists.specs.Lists.{eight, pick, count}
 
@@ -55,8 +52,7 @@ unfoldable pub most_of : List ℕ → ℕ → ℕ
 most_of places m = pick (ltb m (kept_count places)) (kept_count places) m
 
 -- a walk with m processors has chosen the tasks in `run` and given `given` processors out: the tasks are the first in the order of the
--- places; the
--- number is that of the tasks chosen so far; and it is at most m, or what a state that is not proper makes of it
+-- places; the number is that of the tasks chosen so far; and it is at most m, or what a state that is not proper makes of it
 pub record Walked (places : List ℕ) (m : ℕ) (run : List ℕ) (given : ℕ) : Type 0 where
   pub first : run ≡ served places given
   pub number : given ≡ tasks_in run

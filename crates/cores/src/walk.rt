@@ -1,12 +1,13 @@
-// A walk through the ready tasks in the order of their places that gives each a processor while one is left, and carries the number
-// given out.
+// A walk through the ready tasks in the order of their places that gives each a processor while one is left, and carries the number given
+// out.
 ghost use Rattle.std.specs.Prelude.{◌≡◌, ◌+◌, ◌<◌, ◌≤◌, get_or, ◌&&◌, eqb};
 ghost use Rattle.lists.specs.Lists.{eight, pick, count};
 ghost use Rattle.cores.specs.Walk.{under, capped, sooner, rank, kept_count, ready_count, served, Walked};
 
 use std::array;
 
-// A walk on its way: 1 for each task that has been given a processor and 0 for the others, and how many have been given out.
+// A walk on its way: 1 for each task that has been given a processor and 0 for the others, and how many have been given out. Its functions
+// say by `Walked` of which places and m: as ghost fields these would take a model, and proofs by hand.
 #[derive(Clone, Copy, Debug, PartialEq, Eq)]
 struct Walk {
     run: [u16; 8],

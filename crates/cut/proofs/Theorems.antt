@@ -41,8 +41,8 @@ missed_passed t s mask e =
     (ok.1, ok.2, ap (λ x. x.state) (ticked_legal t s mask ok.0 ok.1 ok.2)))
 
 module _ (t : Table) (k : ℕ) (fixed : t.policy ≡ 1) (x : Cut t k) where
-  -- a tick of the cut, from a proper state and with a legal mask of the whole: it leaves the cut state, and misses where one of the
-  -- first k jobs is late
+  -- a tick of the cut, from a proper state and with a legal mask of the whole: it leaves the cut state, and misses where one of the first
+  -- k jobs is late
   cut_tick :
       (s : State) (mask : ℕ) → improper t s ≡ false → illegal t s mask ≡ false
       → ticked (cut_table k t) (cut_state k s) (cut_mask k mask)
@@ -85,8 +85,8 @@ module _ (t : Table) (k : ℕ) (fixed : t.policy ≡ 1) (x : Cut t k) where
   unfolding played
   one_more s i mask u e = rw e (by_bool (missed (cut_table k t) u) (λ m. rw m) (λ m. rw m))
 
--- THEOREM: under P-GFP, for every list and every k from 1 to n: where the whole list is Kept, the cut list is Kept in the cut table,
--- with the cut state
+-- THEOREM: under P-GFP, for every list and every k from 1 to n: where the whole list is Kept, the cut list is Kept in the cut table, with
+-- the cut state
 pub cut_kept :
     (t : Table) (k : ℕ) → t.policy ≡ 1 → cut_refusal t k ≡ 0 → (l : List ℕ) (s : State) → replayed t l ≡ kept s
     → replayed (cut_table k t) (cut_list k l) ≡ kept (cut_state k s)
@@ -95,8 +95,7 @@ cut_kept t k fixed none l s e =
     is_played t k fixed x (cut_list k l) ∙ cut_from_start t k fixed x l s e
 
 -- THEOREM: .. and where a list is Kept and one mask more misses, the cut list has the cut state too, and is Missed at that tick or Kept,
--- as one of the first k
--- tasks is late or none
+-- as one of the first k tasks is late or none
 pub cut_last :
     (t : Table) (k : ℕ) → t.policy ≡ 1 → cut_refusal t k ≡ 0 → (l : List ℕ) (s : State) (mask : ℕ) → replayed t l ≡ kept s → (ticked t s mask).answer ≡ (Ok Tick.Missed)
     → replayed (cut_table k t) (cut_list k (l ++ (mask ∷ [])))

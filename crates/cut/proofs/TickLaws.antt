@@ -1,5 +1,5 @@
--- One tick of a cut table: what is true under every policy, and under P-GFP, where a job waits for the tasks before its own and no
--- others. Assumes nothing.
+-- One tick of a cut table: what is true under every policy, and under P-GFP, where a job waits for the tasks before its own and no others.
+-- Assumes nothing.
 use Prim.Native.Nat.{ℕ, ◌-◌, ◌<◌}
 use mathlib.Core.Path.{◌≡◌, refl, sym, ap, ap₂, ◌∙◌}
 use mathlib.Core.Bool.{Bool, true, false, ◌&&◌, ◌||◌}

@@ -99,8 +99,7 @@ module _ (work work' trace trace' w w' trace₂ trace₂' : List ℕ) (f g : Fig
     (safe : f.kind ≡ 1)
   where
     -- THEOREM: for every table, whatever its policy, and every k from 1 to n: where the search of the table answers Safe with N states,
-    -- that of its cut answers
-    -- Safe with at most N
+    -- that of its cut answers Safe with at most N
     pub table_cut_safe :
         (t : Table) (k : ℕ) → cut_refusal t k ≡ 0 → TableSearch t work work' trace trace' f
         → TableSearch (cut_table k t) w w' trace₂ trace₂' g → (g.kind ≡ 1) × (g.N ≤ f.N)

@@ -66,10 +66,8 @@ module _ {l : Layout} {K : ℕ} {t : Table} (valid : table_fault t ≡ 0) {work 
         })
 
     -- LAW: where a search of a valid table answers Safe with N states, any file that has exactly the states of its first N slots is
-    -- closed: it has the
-    -- start state, its states are proper, and every legal mask leads from each of them, without a miss, to one of them. Neither the
-    -- order of the states
-    -- nor repeats matter.
+    -- closed: it has the start state, its states are proper, and every legal mask leads from each of them, without a miss, to one of them.
+    -- Neither the order of the states nor repeats matter.
     pub safe_closed : Closed t file
     safe_closed =
         record {

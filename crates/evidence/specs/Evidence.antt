@@ -1,6 +1,6 @@
 -- The file of a Safe search (document 02, §1, "the states of any Safe search, copied out"). Its states stand in the first column of the
--- work space (§6), so the
--- front of the work space is that file, and nothing is copied. What a file is accepted for stands in Closed.antt of `closed`.
+-- work space (§6), so the front of the work space is that file, and nothing is copied. What a file is accepted for stands in Closed.antt
+-- of `closed`.
 use Rattle.std.specs.Prelude.{List, ℕ, ◌*◌, ◌<◌, take}
 use Rattle.tasks.specs.declared.state.State.{State}
 use Rattle.levels.specs.Verdict.{Holds}

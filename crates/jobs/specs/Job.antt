@@ -1,6 +1,5 @@
--- One job by its numbers (document 01, "State"): deadline D and least gap P of its task, the ticks p until the task may be released
--- again, and
--- the work left c.
+-- One job by its numbers (document 01, "State"): deadline D and least gap P of its task, the ticks p until the task may be released again,
+-- and the work left c.
 use Rattle.std.specs.Prelude.{ℕ, Bool, not, ◌&&◌, ◌||◌, ℤ, pos, ◌-ℤ◌, int_lt, nat_lt, eqb}
 use Rattle.lists.specs.Lists.{pick}
 

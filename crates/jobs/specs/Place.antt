@@ -1,6 +1,6 @@
 -- The place of a job in the order, one number: the smaller goes first, and of equal ones that of the smaller task number. No part of the
--- paper's model: the code
--- chooses by it, and the proofs of `tasks` show that it gives the choice of a tick (Place.antt and Ticking.antt there).
+-- paper's model: the code chooses by it, and the proofs of `tasks` show that it gives the choice of a tick (Place.antt and Ticking.antt
+-- there).
 use Rattle.std.specs.Prelude.{ℕ, suc, ◌+◌, ◌-◌, ◌*◌, ◌%◌, Bool, bit_and, nat_lt}
 use Rattle.lists.specs.Lists.{pick}
 

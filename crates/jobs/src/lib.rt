@@ -1,5 +1,5 @@
-// One job by its numbers: the age, the time left, the signed slack, which decides a miss and orders the jobs under least slack, the key
-// of each policy and what settles equal keys, and the place in the order.
+// One job by its numbers: the age, the time left, the signed slack, which decides a miss and orders the jobs under least slack, the key of
+// each policy and what settles equal keys, and the place in the order.
 #![tactic(auto)]
 
 mod job;

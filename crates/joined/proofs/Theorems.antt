@@ -95,8 +95,8 @@ module _ (t : Table) where
       (λ b. (omega (arith, ltb-false 0 (table_fault t) h), b)))
 
   module _ (s : State) (k : ℕ) (l l' : List ℕ) where
-    -- THEOREM: playing two joined lists is playing the second from the state where the first was Kept, with the first's ticks before it
-    -- as well
+    -- THEOREM: playing two joined lists is playing the second from the state where the first was Kept, with the first's ticks before it as
+    -- well
     pub from_joined : (s' : State) → played_from t s k l ≡ kept s' → played_from t s k (l ++ l') ≡ played_from t s' (k + length l) l'
     from_joined s' e =
         let ok = kept_from s k l s' e in
@@ -113,8 +113,7 @@ module _ (t : Table) where
         (λ e. rw e (by_bool (improper t s) (λ b. rw b) (λ b. rw b (played_ended s k l l' (rw (e, b) at h)))))
 
   -- THEOREM: the same of a replay: the second list is played by the other call, from the state where the first was Kept and with the
-  -- first's length before it,
-  -- which is to play it with none before and to raise its tick numbers by that length
+  -- first's length before it, which is to play it with none before and to raise its tick numbers by that length
   pub replay_joined : (l l' : List ℕ) (s : State) → replayed t l ≡ kept s → replayed t (l ++ l') ≡ played_from t s (length l) l'
   replay_joined l l' s e =
       let z : 0 + length l ≡ length l = omega arith in

@@ -28,8 +28,7 @@ fn raised_outcome(before: u32, o: Outcome) -> Outcome
 }
 
 // A list played from a state, for any table and state, after a number of ticks: 4 to 7, then 13, then as a replay from that state, with
-// its tick numbers
-// raised by the ticks before.
+// its tick numbers raised by the ticks before.
 pub fn play_after(t: Table, s: State, before: u32, masks: &[u8]) -> Replayed
     ensures { result ≡ played_from t s before masks.now }
 {

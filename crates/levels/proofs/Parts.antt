@@ -1,6 +1,5 @@
 -- A part of a system: it refuses some masks, and any other does what it does in the whole. Where no list of the whole misses none of the
--- part does, and the part
--- has no more states. Assumes nothing.
+-- part does, and the part has no more states. Assumes nothing.
 use mathlib.Core.Path.{◌≡◌, ◌∙◌}
 use mathlib.Core.Logic.{◌⊎◌, ⊎_elim}
 use mathlib.Core.List.{List}

@@ -1,5 +1,5 @@
--- The search as a computation over lists, for systems so small that the checker runs it; proofs/Compute.antt shows that its answer is
--- the verdict.
+-- The search as a computation over lists, for systems so small that the checker runs it; proofs/Compute.antt shows that its answer is the
+-- verdict.
 use Rattle.std.specs.Prelude.{Bool, true, false, length, ltb}
 use mathlib.Core.List.{List, [], ◌∷◌, ◌++◌}
 use Prim.Native.Nat.{ℕ, zero, suc}

@@ -1,6 +1,6 @@
 -- What a search must answer (demand 3; document 01, "Replay" and "The search"), of any system of states and ticks.
--- This is the file to believe, and of the slots Slots.antt: the claim is `Verdict`, at the end. Nothing here knows what a state or a
--- mask is.
+-- This is the file to believe, and of the slots Slots.antt: the claim is `Verdict`, at the end. Nothing here knows what a state or a mask
+-- is.
 use Rattle.std.specs.Prelude.{◌≡◌, ◌↔◌, List, [], ◌∷◌, ℕ, suc, ◌-◌, ◌≤◌, ◌<◌, length}
 
 -- "One tick": the answer is the next state, or Missed with the state, or a refusal

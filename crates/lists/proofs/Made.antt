@@ -1,5 +1,5 @@
--- An array of eight that `array::from_fn` makes: where each call at i answers f i and leaves the closure as it was, the array is f 0 ..
--- f 7.
+-- An array of eight that `array::from_fn` makes: where each call at i answers f i and leaves the closure as it was, the array is f 0 .. f
+-- 7.
 use Prim.Native.Nat.{ℕ, zero, suc, ◌+◌, ◌≤◌, ◌<◌}
 use mathlib.Core.Path.{◌≡◌, sym, ◌∙◌, subst}
 use mathlib.Core.List.{List}

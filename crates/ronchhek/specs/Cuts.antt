@@ -1,6 +1,5 @@
 -- The sheet of a cut table for the plotter's C build (document 02, §9). The answer is kind × 2^48 + N: kind 1 done with N the sheet's
--- length, kind 0 refused
--- with N the refusal's number.
+-- length, kind 0 refused with N the refusal's number.
 use Rattle.std.specs.Prelude.{ℕ, List, ltb}
 use Rattle.lists.specs.Lists.{pick}
 use Rattle.tasks.specs.Sheet.{sheet_of, table_in, after_reading, write_out, out_if_read}

@@ -1,6 +1,5 @@
--- The file of states that a yard keeps with a Safe verdict, for the plotter's C build (document 02, §1). An answer is kind × 2^48 + N,
--- and kind 0 is
--- refused with N the refusal's number.
+-- The file of states that a yard keeps with a Safe verdict, for the plotter's C build (document 02, §1). An answer is kind × 2^48 + N, and
+-- kind 0 is refused with N the refusal's number.
 use Rattle.std.specs.Prelude.{ℕ, ◌*◌, ◌^◌, ◌<◌, ◌≡◌, ◌↔◌, List}
 use Rattle.tasks.specs.Sheet.{sheet_of, table_in}
 use Rattle.closed.specs.Closed.{Closed, sheet_file_refusal}

@@ -1,6 +1,5 @@
--- A practice sheet for the plotter's C build (document 02, §7). The answer is kind × 2^48 + N: kind 1 done with N the sheet's length,
--- kind 0 refused with
--- N the refusal's number.
+-- A practice sheet for the plotter's C build (document 02, §7). The answer is kind × 2^48 + N: kind 1 done with N the sheet's length, kind
+-- 0 refused with N the refusal's number.
 use Rattle.std.specs.Prelude.{ℕ, List, ◌++◌, ltb, length, drop}
 use Rattle.lists.specs.Lists.{pick}
 use Rattle.tasks.specs.Sheet.{sheet_bytes}

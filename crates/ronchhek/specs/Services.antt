@@ -1,6 +1,5 @@
 -- Where the core time of a replay went, for the plotter's C build (document 02, §5): a sheet, a list of masks, and a lent space for the
--- totals of
--- eight tasks, 192 bytes. The number returned is that of the replay's call (`call_number` of Replays.antt) with a size of 192.
+-- totals of eight tasks, 192 bytes. The number returned is that of the replay's call (`call_number` of Replays.antt) with a size of 192.
 use Rattle.std.specs.Prelude.{ℕ, ◌+◌, ◌*◌, ◌^◌, List, eqb, leb, length}
 use Rattle.lists.specs.Lists.{pick}
 use Rattle.tasks.specs.Refusals.{refusal_number}
@@ -14,8 +13,8 @@ use Rattle.service.specs.Bytes.{low_at, totals_space}
 use Rattle.service.specs.declared.totals.Totals.{Totals}
 use Rattle.ronchhek.specs.Replays.{space_if_accepted}
 
--- the space afterwards: Kept, Missed and refusal 11 leave the totals at its front, where it has room for them; every other refusal
--- leaves all
+-- the space afterwards: Kept, Missed and refusal 11 leave the totals at its front, where it has room for them; every other refusal leaves
+-- all
 abbrev pub answer_totals : ReplayAnswer → Totals → List ℕ → List ℕ
 answer_totals (Played o) x space = totals_space x space
 answer_totals (Refused r k) x space = pick (eqb (refusal_number r) 11) (totals_space x space) space

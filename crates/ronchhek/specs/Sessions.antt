@@ -1,6 +1,6 @@
 -- A session for the plotter's C build (document 02, §8): a sheet, 145 lent bytes of session, and a mask or the number of a mark. What a
--- call does with them is Space.antt of
--- `session_bytes`. The answer is kind × 2^48 + N: kind 1 done, kind 2 Missed, kind 0 refused with N the refusal's number.
+-- call does with them is Space.antt of `session_bytes`. The answer is kind × 2^48 + N: kind 1 done, kind 2 Missed, kind 0 refused with N
+-- the refusal's number.
 use Rattle.std.specs.Prelude.{ℕ, ◌*◌, ◌^◌, List, Result, Ok, Err}
 use Rattle.tasks.specs.Refusals.{refusal_number}
 use Rattle.tasks.specs.declared.refusal.Refusal.{Refusal}

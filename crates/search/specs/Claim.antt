@@ -89,8 +89,8 @@ pub record Searched (l : Layout) (K : ℕ) (t : Table) (work work' trace trace' 
   pub complete : Complete (system t) (state_at l work') a
   -- the zero bytes of a slot, where the layout has some, are 0
   pub zeros : (i : ℕ) → i < count_of a → Zeros l work' i
-  -- "Work bytes that stay are now those of unwritten slots in each column and those after the third" (02, §6): all that are in no part
-  -- of a written slot
+  -- "Work bytes that stay are now those of unwritten slots in each column and those after the third" (02, §6): all that are in no part of
+  -- a written slot
   pub work_rest : Stays l (count_of a) work work'
   pub work_length : length work' ≡ length work
   -- "Unsafe writes L masks at the front of the trace space; the rest stays. Safe and No room do not touch it"

@@ -1,6 +1,5 @@
--- The verdict of a table as a computation (`levels`, Compute.antt), for tables so small that the checker runs it;
--- proofs/ComputedLaws.antt shows
--- that its answer is the verdict.
+-- The verdict of a table as a computation (`levels`, Compute.antt), for tables so small that the checker runs it; proofs/ComputedLaws.antt
+-- shows that its answer is the verdict.
 use Rattle.std.specs.Prelude.{ℕ, zero, suc, ◌^◌, Bool, true, false, ◌&&◌, List, [], ◌∷◌, ◌++◌, eqb}
 use Rattle.tasks.specs.declared.state.State.{State}
 use Rattle.tasks.specs.declared.table.Table.{Table}

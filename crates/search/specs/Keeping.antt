@@ -1,6 +1,5 @@
 -- Only the search's bookkeeping, no part of its claim: what its parts ask of each other and promise. K slots stand in w in the layout
--- while the search runs
--- (Running.antt of `slots`), and ends are the ends of its blocks.
+-- while the search runs (Running.antt of `slots`), and ends are the ends of its blocks.
 use Rattle.std.specs.Prelude.{◌≡◌, ◌⊎◌, false, List, [], ◌∷◌, ◌++◌, ℕ, suc, ◌+◌, ◌*◌, ◌/◌, ◌≤◌, ◌<◌, length, get_or, drop, Option, Some, None, Ok}
 use Rattle.tasks.specs.Table.{table_fault}
 use Rattle.tasks.specs.State.{improper}

@@ -1,6 +1,5 @@
 -- The claim of before document 02's §6, with rows of 24 bytes. No call promises it: it stands here for the theorem that answer and count
--- are the same
--- in both layouts (proofs/SameAnswers.antt).
+-- are the same in both layouts (proofs/SameAnswers.antt).
 use Rattle.std.specs.Prelude.{List, ℕ}
 use Rattle.tasks.specs.declared.table.Table.{Table}
 use Rattle.slots.specs.Layout.{rows}

@@ -16,8 +16,8 @@ use Rattle.service.specs.declared.totals.Account.{Account}
 
 -- ---- the ticks played
 
--- what a tick adds to a count, where `rest` is that of the masks after it: a tick that is refused is not counted, and after a miss no
--- mask is read
+-- what a tick adds to a count, where `rest` is that of the masks after it: a tick that is refused is not counted, and after a miss no mask
+-- is read
 abbrev pub count_next : ℕ → ℕ → Result Step Refusal → ℕ
 count_next one rest (Ok Next) = one + rest
 count_next one rest (Ok Missed) = one

@@ -7,8 +7,7 @@ use crate::totals::{Account, account_of, named, raised};
 use tasks::{Outcome, Refusal, ReplayAnswer, State, Table, Valid};
 
 // The masks of a valid table played from the start state, up to the first miss or refusal. Every state on the way is proper, so of a
-// tick's refusals
-// only that of the mask is asked for.
+// tick's refusals only that of the mask is asked for.
 fn play(valid: Valid, masks: &[u8]) -> Account
     ensures { result ≡ account_of valid.table masks.now }
 {

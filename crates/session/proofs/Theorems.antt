@@ -197,8 +197,7 @@ module _ (t : Table) (valid : table_fault t ≡ 0) where
   fresh_noted = record { present = sym (replayed_played t [] (omega arith)); marks = mark_fresh }
 
   -- THEOREM: for every list of calls from a fresh session, the present state is the replay of the list on record, and each mark's state
-  -- the replay of the list stored
-  -- under it
+  -- the replay of the list stored under it
   pub record_law : (cs : List Call) → OnRecord t (session_after t fresh cs) (record_after t fresh blank cs)
   record_law cs = calls_noted fresh blank cs fresh_noted
 

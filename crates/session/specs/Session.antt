@@ -1,6 +1,5 @@
 -- A session with marks (document 02, §8): its present state, eight marks, and the calls step, set mark and return to mark, for any table
--- and session. Marks are numbered
--- from 1 in a call, as the paper has them, and from 0 in the list.
+-- and session. Marks are numbered from 1 in a call, as the paper has them, and from 0 in the list.
 use Rattle.std.specs.Prelude.{ℕ, ◌+◌, ◌-◌, Bool, false, ◌||◌, List, [], ◌∷◌, eqb, ltb, get_or, Option, Some, None, is_some, Result, Ok, Err}
 use Rattle.std.specs.Option.{unwrap_or}
 use Rattle.lists.specs.Lists.{eight, pick, any}

@@ -1,6 +1,5 @@
--- A session in 145 bytes, which whoever calls keeps (document 02, §8, for the plotter's C build): a byte of flags, the present state's
--- 16 bytes, then the 16 bytes of each
--- of eight marks. A state's bytes are those of a slot (Bytes.antt of `states`).
+-- A session in 145 bytes, which whoever calls keeps (document 02, §8, for the plotter's C build): a byte of flags, the present state's 16
+-- bytes, then the 16 bytes of each of eight marks. A state's bytes are those of a slot (Bytes.antt of `states`).
 use Rattle.std.specs.Prelude.{ℕ, zero, suc, ◌+◌, ◌*◌, List, [], ◌∷◌, ltb, length, get_or, Option, Some, None, is_some, Result, Ok, Err}
 use Rattle.std.proofs.lemmas.List.Edits.{sets}
 use Rattle.lists.specs.Lists.{eight, pick, bits_of}

@@ -1,6 +1,5 @@
 -- Slots written in a layout and read again (document 02, §6: "any list of at most K slots, written in either layout, reads back as the
--- same slots"). Assumes
--- nothing.
+-- same slots"). Assumes nothing.
 use Prim.Native.Nat.{ℕ, zero, suc, ◌+◌, ◌*◌, ◌≤◌, ◌<◌}
 use mathlib.Core.Path.{◌≡◌, refl, sym, ap, ◌∙◌}
 use mathlib.Core.List.{List, [], ◌∷◌, ◌++◌, append_assoc, append-nil}

@@ -1,6 +1,5 @@
 -- The slots of a work space in bytes (document 01, "The search"; document 02, §6, "Columns instead of rows"). A layout says where the
--- parts of each slot
--- stand. This file is to be believed.
+-- parts of each slot stand. This file is to be believed.
 use Rattle.std.specs.Prelude.{◌≡◌, List, [], ◌∷◌, ◌++◌, ℕ, zero, suc, ◌+◌, ◌*◌, ◌/◌, ◌%◌, ◌<◌, ◌≤◌, get_or, replicate}
 use Rattle.std.proofs.lemmas.List.Edits.{sets}
 use Rattle.tasks.specs.declared.state.State.{State}

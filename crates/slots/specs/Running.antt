@@ -1,10 +1,7 @@
--- Only the search's bookkeeping, no part of its claim: the layout of the work space while a search runs. States and masks stand where
--- the paper's columns have
--- them. In the place of a parent stands a word: the low twenty bits are the slot's link in the index, those above the parent's place in
--- a block of 4096
--- slots. Which block that is, the ends of the blocks tell, since slots are filled in the order of their parents. One last pass (Settled)
--- leaves the paper's
--- columns.
+-- Only the search's bookkeeping, no part of its claim: the layout of the work space while a search runs. States and masks stand where the
+-- paper's columns have them. In the place of a parent stands a word: the low twenty bits are the slot's link in the index, those above the
+-- parent's place in a block of 4096 slots. Which block that is, the ends of the blocks tell, since slots are filled in the order of their
+-- parents. One last pass (Settled) leaves the paper's columns.
 use Rattle.std.specs.Prelude.{◌≡◌, List, [], ◌∷◌, ℕ, suc, ◌+◌, ◌*◌, ◌/◌, ◌%◌, ◌≤◌, ◌<◌, eqb, ltb, length, get_or, set}
 use Rattle.lists.specs.Lists.{pick}
 use Rattle.states.specs.Bytes.{state_in}
@@ -21,9 +18,8 @@ link_at K w i = word_at K w i % 1048576
 unfoldable pub word_of : ℕ → ℕ → ℕ
 word_of parent link = link + 1048576 * (parent % 4096)
 
--- end b is how many slots were filled when the last slot of block b had been tried, and 1,000,000 before that. So the parent of slot i
--- is of the first
--- block whose end is above i
+-- end b is how many slots were filled when the last slot of block b had been tried, and 1,000,000 before that. So the parent of slot i is
+-- of the first block whose end is above i
 unfoldable pub block_of : List ℕ → ℕ → ℕ
 block_of [] i = 0
 block_of (e ∷ es) i = pick (ltb i e) 0 (suc (block_of es i))

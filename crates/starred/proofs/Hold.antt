@@ -1,6 +1,5 @@
--- Every starred example is answered as document 01 says, and those of the later orders as they say: the checker computes both sides.
--- What it computes for a verdict is the verdict.
--- Assumes nothing.
+-- Every starred example is answered as document 01 says, and those of the later orders as they say: the checker computes both sides. What
+-- it computes for a verdict is the verdict. Assumes nothing.
 use Prim.Native.Nat.{ℕ, ◌≤◌}
 use mathlib.Core.Path.{◌≡◌, refl}
 use mathlib.Core.List.{List, ◌++◌, map}

@@ -1,6 +1,5 @@
 -- The system of a table against the tick and the replay: its steps from a proper state, that every state reached is proper, and that its
--- replay
--- of a list of bytes is the replay of `tasks`. Assumes nothing.
+-- replay of a list of bytes is the replay of `tasks`. Assumes nothing.
 use Rattle.std.proofs.Common.{◌≡◌, ℕ, suc, ◌+◌, ◌<◌, ◌≤◌, true, false, ◌⊎◌, List, [], ◌∷◌, get_or, sym, refl, ap, ◌∙◌, add-one, arith, le-ltb, lt-ltb}
 use mathlib.Core.Logic.◌⊎◌.{inl, inr}
 use native.Mathlib.Decide.{dec_lt}

@@ -15,8 +15,8 @@ four_at w a = four (slice_index w a) (slice_index w (a + 1)) (slice_index w (a +
 abbrev pub state_from : List ℕ → ℕ → State
 state_from w a = record { c = eight (λ k. slice_index w (a + 2 * k)); p = eight (λ k. slice_index w (a + 2 * k + 1)) }
 
--- state i of those that stand one after the other from the front on: of a file (document 02, §1), and of a work space, whose first
--- column has the states (§6)
+-- state i of those that stand one after the other from the front on: of a file (document 02, §1), and of a work space, whose first column
+-- has the states (§6)
 unfoldable pub state_in : List ℕ → ℕ → State
 state_in w i = state_from w (16 * i)
 

@@ -1,6 +1,5 @@
--- Every answer in figures, after the kind of document 01's verdict number ("The search"): its kind and then its values. Kind 0 is
--- refused, with
--- the refusal's number; the other cases have the kinds 1 and 2. No two cases have the same figures.
+-- Every answer in figures, after the kind of document 01's verdict number ("The search"): its kind and then its values. Kind 0 is refused,
+-- with the refusal's number; the other cases have the kinds 1 and 2. No two cases have the same figures.
 use Rattle.std.specs.Prelude.{ℕ, List, [], ◌∷◌, ◌++◌, Result, Ok, Err}
 use Rattle.tasks.specs.Number.{Read}
 use Rattle.tasks.specs.Refusals.{refusal_number}

@@ -46,8 +46,3 @@ refusal_at r =
 -- the refusal of number r, or a value where r is 0
 unfoldable pub unless_refused : {A : Type 0} → ℕ → A → Result A Refusal
 unless_refused r x = pick (ltb 0 r) (Err (refusal_at r)) (Ok x)
-
--- the number of the refusal, 0 where there is none
-abbrev pub refusal_in : {A : Type 0} → Result A Refusal → ℕ
-refusal_in (Ok x) = 0
-refusal_in (Err r) = refusal_number r

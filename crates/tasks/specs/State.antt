@@ -1,5 +1,5 @@
--- The state and when it is proper (document 01, "State"); its table is that of "The task table". The time left and the slack of a job
--- are in Job.antt of `jobs`.
+-- The state and when it is proper (document 01, "State"); its table is that of "The task table". The time left and the slack of a job are
+-- in Job.antt of `jobs`.
 use Rattle.std.specs.Prelude.{ℕ, Bool, ◌&&◌, ◌||◌, get_or, ltb, leb}
 use Rattle.lists.specs.Lists.{eight, count, any}
 use Rattle.jobs.specs.Job.{keeps_running, late_job}

@@ -48,8 +48,7 @@ unfoldable pub age : Table → State → ℕ → ℤ
 age t s i = job_age t.policy (get_or t.gap i 0) (get_or s.p i 0)
 
 -- the job of task j goes before that of task i: the smaller key first, then the greater age, then the smaller task number; a further
--- tie-break is one
--- more `lex` here
+-- tie-break is one more `lex` here
 unfoldable pub before : Table → State → ℕ → ℕ → Bool
 before t s j i = lex (key t s j) (key t s i) (lex (age t s i) (age t s j) (ltb j i))
 

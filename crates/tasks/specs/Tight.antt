@@ -1,6 +1,5 @@
--- The jobs that a tick may make late (document 01, "One tick", steps 4 and 5): a tick lowers the slack of a job that waits by 1 and of
--- one that
--- runs by 0. No part of the paper's model: from a proper state of a valid table in which no job is tight, no legal mask misses
+-- The jobs that a tick may make late (document 01, "One tick", steps 4 and 5): a tick lowers the slack of a job that waits by 1 and of one
+-- that runs by 0. No part of the paper's model: from a proper state of a valid table in which no job is tight, no legal mask misses
 -- (proofs/NoMiss.antt).
 use Rattle.std.specs.Prelude.{ℕ, Bool, ◌&&◌, ◌||◌, eqb, ltb, pos, get_or}
 use Rattle.std.specs.Int.Signed.{lt_z}

@@ -21,8 +21,8 @@ fn count_job(counts: [u16; 8], keys: [i16; 8], ages: [i16; 8], j: usize) -> [u16
     out
 }
 
-// For each task, how many go before it, by the keys and ages of all. A job is counted for all tasks at once, which the compiler makes
-// into vectors.
+// For each task, how many go before it, by the keys and ages of all. A job is counted for all tasks at once, which the compiler makes into
+// vectors.
 fn count_earlier(keys: [i16; 8], ages: [i16; 8]) -> [u16; 8]
     ensures { result ≡ eight (earlier_in keys ages 8) }
 {

@@ -30,9 +30,8 @@ pub struct Replayed {
     pub state: State,
 }
 
-// The masks of a valid table played from a proper state, up to the first miss or refusal; later masks are not read. Every state on the
-// way is proper, so of a
-// tick's refusals only that of the mask is asked for.
+// The masks of a valid table played from a proper state, up to the first miss or refusal; later masks are not read. Every state on the way
+// is proper, so of a tick's refusals only that of the mask is asked for.
 fn play(valid: Valid, first: State, masks: &[u8]) -> Replayed
     requires { improper valid.table first ≡ false }
     ensures { result ≡ played valid.table first 0 masks.now }
@@ -63,8 +62,8 @@ fn play(valid: Valid, first: State, masks: &[u8]) -> Replayed
     }
 }
 
-// A list played on from a state, for any table and state: 4 to 7 and then 13 are refused before the first tick, with the state given.
-// The first tick is 1.
+// A list played on from a state, for any table and state: 4 to 7 and then 13 are refused before the first tick, with the state given. The
+// first tick is 1.
 pub fn play_on(t: Table, s: State, masks: &[u8]) -> Replayed
     ensures { (result ≡ played_from t s 0 masks.now) × (replay_tick result.answer ≤ length masks.now) }
 {

@@ -1,6 +1,5 @@
 -- What a call of `ticks` adds up: the figures of many ticks, each from its own state with its own mask, by a table made ready. From a
--- proper state of a valid table such a
--- tick is the model's (proofs/Model.antt); the benchmark has no others.
+-- proper state of a valid table such a tick is the model's (proofs/Model.antt); the benchmark has no others.
 use Rattle.std.specs.Prelude.{ℕ, zero, suc, ◌+◌, ◌*◌, ◌/◌, ◌%◌, ◌^◌, List, length, nat_lt, slice_index}
 use Rattle.lists.specs.Lists.{eight, pick}
 use Rattle.tasks.specs.Tick.{missed}

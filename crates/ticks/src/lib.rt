@@ -76,10 +76,9 @@ fn pairs(states: &[u8], masks: &[u8]) -> usize
     (states.len() / 16).min(masks.len())
 }
 
-// A tick for each mask and each state of 16 bytes: the figures of the states after them, added up. The table is made ready once. The
-// first tick stands before the
-// loop: a function with two callers is kept out of line, so the table made ready stays in memory and its eight numbers are read at once,
-// as in the search.
+// A tick for each mask and each state of 16 bytes: the figures of the states after them, added up. The table is made ready once. The first
+// tick stands before the loop: a function with two callers is kept out of line, so the table made ready stays in memory and its eight
+// numbers are read at once, as in the search.
 #[unsafe(no_mangle)]
 pub extern "C" fn ticks(table: &[u8], states: &[u8], masks: &[u8]) -> u64
     ensures { result ≡ ticks_sum table.now states.now masks.now }
