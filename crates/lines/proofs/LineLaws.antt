@@ -8,7 +8,6 @@ use lib.ListN.{length, get_or, take, drop, length-append}
 use lib.Seq.{drop-cons, drop-length, sets, sets-eq}
 use borrow.Author.Tests.{lt-ltb, le-ltb}
 use Rattle.std.specs.Prelude.{Result, Ok, Err}
-use Rattle.tasks.specs.Refusals.{refusal_number}
 use Rattle.tasks.specs.declared.refusal.Refusal.{Refusal}
 use Rattle.search.specs.declared.run.Verdict.{Verdict}
 use Rattle.search.specs.declared.run.Verdict.TheVariants.{Safe, Unsafe, NoRoom}
@@ -35,9 +34,9 @@ pub room_length : (n : ℕ) → length (first_line (Ok (NoRoom n))) ≡ 5 + leng
 unfolding first_line
 room_length n = line_length _ n
 
-pub refused_length : (r : Refusal) → length (first_line (Err r)) ≡ 8 + length (decimal (refusal_number r)) + 1
+pub refused_length : (r : ℕ) → length (first_line (Err r)) ≡ 8 + length (decimal r) + 1
 unfolding first_line
-refused_length r = line_length _ (refusal_number r)
+refused_length r = line_length _ r
 
 -- ---- the masks, one after the other
 
@@ -55,7 +54,7 @@ masks_longer masks i h =
 
 -- ---- all lines
 
-module _ (a : Result Verdict Refusal) (trace : List ℕ) where
+module _ (a : Result Verdict ℕ) (trace : List ℕ) where
   pub lines_length : length (lines_of a trace) ≡ length (first_line a) + length (mask_lines (masks_given a trace))
   unfolding lines_of
   lines_length = length-append (first_line a) (mask_lines (masks_given a trace))
@@ -89,7 +88,7 @@ masks_most (suc l) (m ∷ ms) byte =
     omega
     (arith, length-append (line [] m) (mask_lines (take l ms)), line_length [] m, decimal_byte m (byte 0), masks_most l ms (λ i. byte (suc i)))
 
-given_most : (a : Result Verdict Refusal) (trace : List ℕ) → ((i : ℕ) → get_or trace i 0 < 256) → length (mask_lines (masks_given a trace)) ≤ 4 * length trace
+given_most : (a : Result Verdict ℕ) (trace : List ℕ) → ((i : ℕ) → get_or trace i 0 < 256) → length (mask_lines (masks_given a trace)) ≤ 4 * length trace
 unfolding masks_given mask_lines
 given_most (Ok (Safe n)) trace byte = omega arith
 given_most (Ok (Unsafe l n)) trace byte = masks_most l trace byte
@@ -97,5 +96,5 @@ given_most (Ok (NoRoom n)) trace byte = omega arith
 given_most (Err r) trace byte = omega arith
 
 -- LAW: the lines of an answer with a trace blank of n bytes
-pub lines_most : (a : Result Verdict Refusal) (trace : List ℕ) → length (first_line a) ≤ 60 → ((i : ℕ) → get_or trace i 0 < 256) → length (lines_of a trace) ≤ 60 + 4 * length trace
+pub lines_most : (a : Result Verdict ℕ) (trace : List ℕ) → length (first_line a) ≤ 60 → ((i : ℕ) → get_or trace i 0 < 256) → length (lines_of a trace) ≤ 60 + 4 * length trace
 lines_most a trace h byte = omega (arith, lines_length a trace, given_most a trace byte)

@@ -2,7 +2,6 @@
 -- R`.
 use Rattle.std.specs.Prelude.{ℕ, zero, suc, ◌+◌, ◌/◌, ◌%◌, List, [], ◌∷◌, ◌++◌, ltb, length, take, drop, Result, Ok, Err}
 use Rattle.lists.specs.Lists.{pick}
-use Rattle.tasks.specs.Refusals.{refusal_number}
 use Rattle.tasks.specs.declared.refusal.Refusal.{Refusal}
 use Rattle.search.specs.declared.run.Verdict.{Verdict}
 use Rattle.search.specs.declared.run.Verdict.TheVariants.{Safe, Unsafe, NoRoom}
@@ -40,12 +39,17 @@ refused_word = 114 ∷ 101 ∷ 102 ∷ 117 ∷ 115 ∷ 101 ∷ 100 ∷ 32 ∷ []
 abbrev pub blank : List ℕ
 blank = 32 ∷ []
 
--- the first line of an answer
-unfoldable pub first_line : Result Verdict Refusal → List ℕ
+-- an answer with the number of its refusal
+abbrev pub numbered : {R : Type 0} → (R → ℕ) → Result Verdict R → Result Verdict ℕ
+numbered number (Ok verdict) = Ok verdict
+numbered number (Err why) = Err (number why)
+
+-- the first line of an answer, whose refusal is any number
+unfoldable pub first_line : Result Verdict ℕ → List ℕ
 first_line (Ok (Safe n)) = line safe_word n
 first_line (Ok (Unsafe l n)) = (unsafe_word ++ decimal l) ++ line blank n
 first_line (Ok (NoRoom n)) = line room_word n
-first_line (Err r) = line refused_word (refusal_number r)
+first_line (Err r) = line refused_word r
 
 -- one mask a line
 unfoldable pub mask_lines : List ℕ → List ℕ
@@ -53,24 +57,24 @@ mask_lines [] = []
 mask_lines (mask ∷ masks) = line [] mask ++ mask_lines masks
 
 -- the masks that an answer gives: under Unsafe the first L of the trace blank
-unfoldable pub masks_given : Result Verdict Refusal → List ℕ → List ℕ
+unfoldable pub masks_given : Result Verdict ℕ → List ℕ → List ℕ
 masks_given (Ok (Safe n)) trace = []
 masks_given (Ok (Unsafe l n)) trace = take l trace
 masks_given (Ok (NoRoom n)) trace = []
 masks_given (Err r) trace = []
 
 -- all lines of an answer
-unfoldable pub lines_of : Result Verdict Refusal → List ℕ → List ℕ
+unfoldable pub lines_of : Result Verdict ℕ → List ℕ → List ℕ
 lines_of a trace = first_line a ++ mask_lines (masks_given a trace)
 
 -- ---- written to an output
 
 -- what is answered: the length, or 12 where the output is shorter
-unfoldable pub lines_writing : Result Verdict Refusal → List ℕ → List ℕ → Result ℕ Refusal
+unfoldable pub lines_writing : Result Verdict ℕ → List ℕ → List ℕ → Result ℕ Refusal
 lines_writing a trace out =
     pick (ltb (length out) (length (lines_of a trace))) (Err Refusal.ShortOutput) (Ok (length (lines_of a trace)))
 
 -- the output afterwards: the lines at its front, later bytes as they were; a refusal leaves every byte
-unfoldable pub lines_out : Result Verdict Refusal → List ℕ → List ℕ → List ℕ
+unfoldable pub lines_out : Result Verdict ℕ → List ℕ → List ℕ → List ℕ
 lines_out a trace out =
     pick (ltb (length out) (length (lines_of a trace))) out (lines_of a trace ++ drop (length (lines_of a trace)) out)

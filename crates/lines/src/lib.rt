@@ -6,4 +6,4 @@ mod program;
 mod text;
 
 pub use program::judge;
-pub use text::write_lines;
+pub use text::{Numbered, write_lines};

@@ -1,6 +1,7 @@
 // The program `verdict` but for its read and its write.
 ghost use Rattle.std.specs.Prelude.{◌≡◌, ◌++◌, length, drop};
-ghost use Rattle.lines.specs.Lines.{lines_of};
+ghost use Rattle.tasks.specs.Refusals.{refusal_number};
+ghost use Rattle.lines.specs.Lines.{numbered, lines_of};
 ghost use Rattle.lines.specs.Judged.{Judged};
 
 use crate::text::write_lines;
@@ -10,7 +11,7 @@ use tasks::Refusal;
 // Writes the lines of an answer to an output that has room for every one: a first line, and a line of at most four bytes for each
 // of 8,192 masks. Answers their length.
 fn print_lines(a: Result<Verdict, Refusal>, trace: &[u8; 8192], out: &mut [u8; 32896]) -> usize
-    ensures { (result ≡ length (lines_of a trace.now)) × (out.new ≡ lines_of a trace.now ++ drop result out.old) }
+    ensures { (result ≡ length (lines_of (numbered refusal_number a) trace.now)) × (out.new ≡ lines_of (numbered refusal_number a) trace.now ++ drop result out.old) }
 {
     write_lines(a, trace, out).unwrap_or(0)
 }

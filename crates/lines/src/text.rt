@@ -1,26 +1,61 @@
 // The lines of an answer: its first line, and under Unsafe one mask a line.
-ghost use Rattle.std.specs.Prelude.{◌≡◌, ◌+◌, ◌*◌, ◌≤◌, leb, length};
+ghost use Rattle.std.specs.Prelude.{◌≡◌, ℕ, ◌+◌, ◌*◌, ◌≤◌, leb, length};
 ghost use Rattle.std.proofs.lemmas.List.Edits.{sets};
-ghost use Rattle.lines.specs.Lines.{first_line, mask_lines, masks_given, lines_of, lines_writing, lines_out};
+ghost use Rattle.tasks.specs.Refusals.{refusal_number};
+ghost use Rattle.lines.specs.Lines.{numbered, first_line, mask_lines, masks_given, lines_of, lines_writing, lines_out};
 
 use crate::decimal::{decimal_len, put_line, put_word};
 use search::Verdict;
 use tasks::Refusal;
 
+// What a refusal is written by: its number, also one of no refusal that the paper lists.
+pub trait Numbered {
+    ghost number: { Self → ℕ };
+
+    fn number(self) -> u8
+        ensures { result ≡ number self };
+}
+
+impl Numbered for u8 {
+    ghost number = { λ n. n };
+
+    fn number(self) -> u8 {
+        self
+    }
+}
+
+impl Numbered for Refusal {
+    ghost number = { refusal_number };
+
+    fn number(self) -> u8 {
+        Refusal::number(self)
+    }
+}
+
+// An answer with the number of its refusal.
+fn with_number<R: Numbered + Copy>(a: Result<Verdict, R>) -> Result<Verdict, u8>
+    ensures { result ≡ numbered R.number a }
+{
+    match a {
+        Ok(verdict) => Ok(verdict),
+        Err(why) => Err(why.number()),
+    }
+}
+
 // The length of the first line.
-fn first_len(a: Result<Verdict, Refusal>) -> usize
+fn first_len(a: Result<Verdict, u8>) -> usize
     ensures { (result ≡ length (first_line a)) × (result ≤ 60) }
 {
     match a {
         Ok(Verdict::Safe(n)) => 5 + decimal_len(n) + 1,
         Ok(Verdict::Unsafe(l, n)) => 7 + decimal_len(l) + 1 + decimal_len(n) + 1,
         Ok(Verdict::NoRoom(n)) => 5 + decimal_len(n) + 1,
-        Err(why) => 8 + decimal_len(usize::from(why.number())) + 1,
+        Err(why) => 8 + decimal_len(usize::from(why)) + 1,
     }
 }
 
 // Writes the first line at the front, and answers the place after it.
-fn put_first(out: &mut [u8], a: Result<Verdict, Refusal>) -> usize
+fn put_first(out: &mut [u8], a: Result<Verdict, u8>) -> usize
     requires { length (first_line a) ≤ length out.old }
     ensures { (result ≡ length (first_line a)) × (out.new ≡ sets out.old 0 (first_line a)) }
 {
@@ -31,7 +66,7 @@ fn put_first(out: &mut [u8], a: Result<Verdict, Refusal>) -> usize
             put_line(out, next, b" ", n)
         }
         Ok(Verdict::NoRoom(n)) => put_line(out, 0, b"room ", n),
-        Err(why) => put_line(out, 0, b"refused ", usize::from(why.number())),
+        Err(why) => put_line(out, 0, b"refused ", usize::from(why)),
     }
 }
 
@@ -63,7 +98,7 @@ fn put_masks(out: &mut [u8], from: usize, masks: &[u8]) -> usize
 }
 
 // The masks that an answer gives: under Unsafe those at the front of the trace space.
-fn masks_given(a: Result<Verdict, Refusal>, trace: &[u8]) -> &[u8]
+fn masks_given(a: Result<Verdict, u8>, trace: &[u8]) -> &[u8]
     ensures { result.now ≡ masks_given a trace.now }
 {
     match a {
@@ -74,14 +109,16 @@ fn masks_given(a: Result<Verdict, Refusal>, trace: &[u8]) -> &[u8]
     }
 }
 
-// Writes the lines of an answer to the front of the output, where they fit: at most 60 bytes, and four more for each mask.
-pub fn write_lines(
-    a: Result<Verdict, Refusal>,
+// Writes the lines of an answer to the front of the output, where they fit: at most 60 bytes, and four more for each mask. A refusal may be
+// any number, or one of the paper's.
+pub fn write_lines<R: Numbered + Copy>(
+    answer: Result<Verdict, R>,
     trace: &[u8],
     out: &mut [u8],
 ) -> Result<usize, Refusal>
-    ensures { (result ≡ lines_writing a trace.now out.old) × (out.new ≡ lines_out a trace.now out.old) × (length (lines_of a trace.now) ≤ 60 + 4 * length trace.now) }
+    ensures { (result ≡ lines_writing (numbered R.number answer) trace.now out.old) × (out.new ≡ lines_out (numbered R.number answer) trace.now out.old) × (length (lines_of (numbered R.number answer) trace.now) ≤ 60 + 4 * length trace.now) }
 {
+    let a = with_number(answer);
     let masks = masks_given(a, trace);
     let n = first_len(a);
     if n <= out.len() && masks_fit(masks, out.len() - n) {

@@ -17,8 +17,8 @@ fn next_mask(free: u8, m: u8) -> u8
     m.wrapping_sub(free) & free
 }
 
-// The submask of free after m.
-fn mask_after(free: u8, m: u8) -> Option<u8>
+// The submask of free after m, for any two masks, and none after the last.
+pub fn follow(free: u8, m: u8) -> Option<u8>
     ensures { place result ≡ follows free m }
 {
     match next_mask(free, m) {
@@ -48,7 +48,7 @@ impl Iterator for Masks {
 
     fn next(&mut self) -> Option<u8> {
         let mask = self.next?;
-        self.next = mask_after(self.free, mask);
+        self.next = follow(self.free, mask);
         Some(mask)
     }
 }

@@ -121,7 +121,8 @@ where
     run(sheet, work, trace, pattern)
 }
 
-// Kind v: the answer of the search, and what it leaves in the spaces.
+// Kind v: the answer of the search, its own refusal too, and what it leaves in the spaces. A verdict on a sheet that is refused is shown
+// with a table of zeros.
 pub fn search(rt: &impl Print, body: Body) -> io::Result<()> {
     lend(body, |sheet, work, trace, pattern| {
         let read = tasks::read_sheet(sheet);
@@ -131,8 +132,8 @@ pub fn search(rt: &impl Print, body: Body) -> io::Result<()> {
             trace,
             pattern,
         };
-        match read.and_then(|t| answer.map(|verdict| (t, verdict))) {
-            Ok((t, verdict)) => print(rt, verdict, t, left),
+        match answer {
+            Ok(verdict) => print(rt, verdict, read.unwrap_or(Table::empty(0, 0, 0)), left),
             Err(r) => println!(rt; "search{}{}", Refused(r), left.changed(0, 0)),
         }
     })

@@ -1,7 +1,6 @@
 -- The length of each answer's first line. Assumes nothing.
 use mathlib.Core.Path.{◌≡◌, ap, ◌∙◌}
 use lib.ListN.{length}
-use Rattle.tasks.specs.Refusals.{refusal_number}
 use Rattle.lines.specs.Lines.{decimal}
 use Rattle.lines.proofs.LineLaws.{safe_length, unsafe_length, room_length, refused_length}
 use native.Mathlib.Omega.{arith}
@@ -29,5 +28,5 @@ returns-in-Ok-NoRoom c =
 pub returns-in-Err : goal.returns-in-Err
 returns-in-Err c =
     let e = c.decimal_len-in-Err.ensures in
-    let d : c.decimal_len-in-Err.result ≡ length (decimal (refusal_number c.in-Err.why)) = e.0 ∙ ap (λ x. length (decimal x)) (c.from.ensures ∙ c.number.ensures) in
+    let d : c.decimal_len-in-Err.result ≡ length (decimal c.in-Err.why) = e.0 ∙ ap (λ x. length (decimal x)) c.from.ensures in
     (rw c.in-Err.is (omega (arith, refused_length c.in-Err.why)), omega (arith, e.1))

@@ -4,7 +4,6 @@ use mathlib.Core.Path.{◌≡◌, ap, ◌∙◌}
 use mathlib.Core.List.{List, ◌++◌}
 use lib.ListN.{length}
 use Rattle.std.specs.Prelude.{Result, Ok}
-use Rattle.tasks.specs.declared.refusal.Refusal.{Refusal}
 use Rattle.tasks.proofs.Stores.{Storing, storing_start, storing_step, storing_room, storing_left, storing_last}
 use Rattle.search.specs.declared.run.Verdict.{Verdict}
 use Rattle.search.specs.declared.run.Verdict.TheVariants.{Unsafe}
@@ -14,7 +13,7 @@ use Rattle.lines.proofs.text.put_first.Goals as goal
 
 -- under Unsafe: the word with L, and then a line of the count
 whole :
-    (out : List ℕ) {a : Result Verdict Refusal} {l n : ℕ} → length (first_line a) ≤ length out → a ≡ Ok (Unsafe l n)
+    (out : List ℕ) {a : Result Verdict ℕ} {l n : ℕ} → length (first_line a) ≤ length out → a ≡ Ok (Unsafe l n)
     → Storing out 0 ((unsafe_word ++ decimal l) ++ line blank n) out 0 ((unsafe_word ++ decimal l) ++ line blank n)
 unfolding first_line
 whole out {a} {l} {n} h e = storing_start out 0 ((unsafe_word ++ decimal l) ++ line blank n) (let p = rw e at h in omega arith)
@@ -43,7 +42,7 @@ put_line-requires-in-Ok-NoRoom c = let h = rw (c.in-Ok-NoRoom.is, (rw c.in-Ok-No
 
 pub put_line-requires-in-Err : goal.put_line-requires-in-Err
 unfolding first_line
-put_line-requires-in-Err c = let h = rw c.in-Err.is at c.requires in rw (c.from.ensures, c.number.ensures) (omega arith)
+put_line-requires-in-Err c = let h = rw c.in-Err.is at c.requires in rw c.from.ensures (omega arith)
 
 pub returns-in-Ok-Safe : goal.returns-in-Ok-Safe
 unfolding first_line
@@ -65,5 +64,5 @@ returns-in-Ok-NoRoom c = rw (c.in-Ok-NoRoom.is, (rw c.in-Ok-NoRoom.is at c.in-Ok
 pub returns-in-Err : goal.returns-in-Err
 unfolding first_line
 returns-in-Err c =
-    let w = rw (c.from.ensures, c.number.ensures) at c.put_line-in-Err.ensures in
+    let w = rw c.from.ensures at c.put_line-in-Err.ensures in
     rw c.in-Err.is (omega (arith, w.0), w.1)

@@ -6,6 +6,6 @@ use Rattle.states.proofs.masks.MasksIterator.next.Goals as goal
 
 pub returns-clause-goes : goal.returns-clause-goes
 returns-clause-goes c =
-    let step : Stepped _ _ _ = record { small = search rules; here = ap place c.in_ok-mask.was; free = refl; next = c.mask_after-self.ensures } in
+    let step : Stepped _ _ _ = record { small = search rules; here = ap place c.in_ok-mask.was; free = refl; next = c.follow-self.ensures } in
     let up = walk_up c.requires step in
     record { on = λ _. (up.0, tt, up.1); keeps = up.0; rests = λ _. tt }
