@@ -72,10 +72,11 @@ sheet: the sheet's length in a byte, the sheet, k in a byte, and the length of t
 
 A session is 145 bytes: a byte whose bit i - 1 is set where mark i is, the present state, and the state under each of
 eight marks, also under those that are not set, whose bytes stay. A session by value has no state there: its line (x)
-has those of the record; that calls leave the bytes is seen in the lines of calls on bytes (y). A sheet and a space are the sheet's length in a byte,
-the sheet, the length of the space in a byte, and its bytes, at whose front a session stands. Calls are 2 bytes each up
-to the body's end: 0 step, 1 mark or 2 return, and the mask or the mark. The state after a step's answer is the tick's:
-the next state, the state of the miss, or the present state where the step is refused.
+has those of the record; that calls leave the bytes is seen in the lines of calls on bytes (y). A sheet and a space are
+the sheet's length in a byte, the sheet, the length of the space in a byte, and its bytes, at whose front a session
+stands. Calls are 2 bytes each up to the body's end: 0 step, 1 mark or 2 return, and the mask or the mark. The state
+after a step's answer is the tick's: the next state, the state of the miss, or the present state where the step is
+refused.
 """
 import sys
 from contextlib import contextmanager
